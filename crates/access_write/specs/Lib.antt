@@ -1,0 +1,4 @@
+pub mod Write
+pub mod Wrote
+pub mod Fill
+pub mod Written
