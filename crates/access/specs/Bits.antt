@@ -34,7 +34,7 @@ even : (m : ℕ) → bit m 0 ≡ false → m % 2 ≡ 0
 even m e = let h = eqb-false (m % 2) 1 (sym (bit-zero m) ∙ e) in omega arith
 
 -- a bit that was not there is put in: it is there, and the others stand
-pub set-bit : (p q m : ℕ) → bit m p ≡ false → bit (m + 2 ^ p) q ≡ either (eqb q p) (bit m q)
+set-bit : (p q m : ℕ) → bit m p ≡ false → bit (m + 2 ^ p) q ≡ either (eqb q p) (bit m q)
 set-bit zero zero m e =
     let h = even m e in
     let k : (m + 2 ^ 0) % 2 ≡ 1 = omega arith in

@@ -37,45 +37,42 @@ pub both-snd : (x y : Bool) → both x y ≡ true → y ≡ true
 both-snd true y e = e
 both-snd false y e = absurd (let z : _≡_ {A = ℕ} 0 1 = cc in omega arith)
 
-pub within-low : (a b n : ℕ) → within a b n ≡ true → a ≤ n
-within-low a b n e = leb-true a n (both-fst (leb a n) (leb n b) e)
-
 pub within-high : (a b n : ℕ) → within a b n ≡ true → n ≤ b
 within-high a b n e = leb-true n b (both-snd (leb a n) (leb n b) e)
 
 -- ---- as many as asked for
-pub length-bytesAt : (l : List ℕ) (a n : ℕ) → length (bytesAt l a n) ≡ n
+length-bytesAt : (l : List ℕ) (a n : ℕ) → length (bytesAt l a n) ≡ n
 unfolding bytesAt
 length-bytesAt l a zero = refl
 length-bytesAt l a (suc n) = ap suc (length-bytesAt l (a + 1) n)
 
-pub length-scopesAt : (l : List ℕ) (a n : ℕ) → length (scopesAt l a n) ≡ n
+length-scopesAt : (l : List ℕ) (a n : ℕ) → length (scopesAt l a n) ≡ n
 unfolding scopesAt
 length-scopesAt l a zero = refl
 length-scopesAt l a (suc n) = ap suc (length-scopesAt l (a + 72) n)
 
-pub length-aclsAt : (l : List ℕ) (a n : ℕ) → length (aclsAt l a n) ≡ n
+length-aclsAt : (l : List ℕ) (a n : ℕ) → length (aclsAt l a n) ≡ n
 unfolding aclsAt
 length-aclsAt l a zero = refl
 length-aclsAt l a (suc n) = ap suc (length-aclsAt l (a + 368) n)
 
 -- ---- one turn
-pub scopes-turn : (l : List ℕ) (a n : ℕ) → 0 < n → scopesAt l a n ≡ scopeAt l a ∷ scopesAt l (a + 72) (n - 1)
+scopes-turn : (l : List ℕ) (a n : ℕ) → 0 < n → scopesAt l a n ≡ scopeAt l a ∷ scopesAt l (a + 72) (n - 1)
 unfolding scopesAt
 scopes-turn l a zero h = absurd (not-suc-le-zero h)
 scopes-turn l a (suc n) h = let e : n ≡ suc n - 1 = omega arith in ap (λ (m : ℕ). scopeAt l a ∷ scopesAt l (a + 72) m) e
 
-pub acls-turn : (l : List ℕ) (a n : ℕ) → 0 < n → aclsAt l a n ≡ aclAt l a ∷ aclsAt l (a + 368) (n - 1)
+acls-turn : (l : List ℕ) (a n : ℕ) → 0 < n → aclsAt l a n ≡ aclAt l a ∷ aclsAt l (a + 368) (n - 1)
 unfolding aclsAt
 acls-turn l a zero h = absurd (not-suc-le-zero h)
 acls-turn l a (suc n) h = let e : n ≡ suc n - 1 = omega arith in ap (λ (m : ℕ). aclAt l a ∷ aclsAt l (a + 368) m) e
 
-pub no-scopes : (l : List ℕ) (a n : ℕ) → n ≤ 0 → scopesAt l a n ≡ []
+no-scopes : (l : List ℕ) (a n : ℕ) → n ≤ 0 → scopesAt l a n ≡ []
 unfolding scopesAt
 no-scopes l a zero h = refl
 no-scopes l a (suc n) h = absurd (omega arith)
 
-pub no-acls : (l : List ℕ) (a n : ℕ) → n ≤ 0 → aclsAt l a n ≡ []
+no-acls : (l : List ℕ) (a n : ℕ) → n ≤ 0 → aclsAt l a n ≡ []
 unfolding aclsAt
 no-acls l a zero h = refl
 no-acls l a (suc n) h = absurd (omega arith)
@@ -186,12 +183,11 @@ scope-value l a g =
 
 -- the ACL at a place of a good record
 pub record Place (l : List ℕ) (a : ℕ) : Type 0 where
-  pub key-some : 1 ≤ getD l (a + 8) 0
   pub key-fits : getD l (a + 8) 0 ≤ 64
   pub scopes-few : getD l (a + 9) 0 ≤ 4
   pub scopes-good : all scopeGood (scopesAt l (a + 80) (getD l (a + 9) 0)) ≡ true
 
-pub place-good : (l : List ℕ) (a : ℕ) → aclGood (aclAt l a) ≡ true → Place l a
+place-good : (l : List ℕ) (a : ℕ) → aclGood (aclAt l a) ≡ true → Place l a
 place-good l a g =
     let k = getD l (a + 8) 0 in
     let n = getD l (a + 9) 0 in
@@ -199,13 +195,12 @@ place-good l a g =
     let x = both-fst (within 1 64 k) _ t in
     let y = both-snd (within 1 64 k) (both (within 1 4 n) (all scopeGood (scopesAt l (a + 80) n))) t in
     record {
-      key-some = within-low 1 64 k x;
       key-fits = within-high 1 64 k x;
       scopes-few = within-high 1 4 n (both-fst (within 1 4 n) _ y);
       scopes-good = both-snd (within 1 4 n) _ y;
     }
 
-pub acls-nth : (l : List ℕ) (a n i : ℕ) → aclsGood (aclsAt l a n) ≡ true → i < n → aclGood (aclAt l (a + i * 368)) ≡ true
+acls-nth : (l : List ℕ) (a n i : ℕ) → aclsGood (aclsAt l a n) ≡ true → i < n → aclGood (aclAt l (a + i * 368)) ≡ true
 unfolding aclsAt aclsGood
 acls-nth l a zero i g h = absurd (not-suc-le-zero h)
 acls-nth l a (suc n) zero g h =

@@ -86,11 +86,6 @@ good-named m p g e =
     let h = good-below m g in
     named-in p (bit-below 10 p m (omega arith) e) (λ q. good-six m g (ap (bit m) (sym q) ∙ e))
 
--- and some of them
-pub good-some : (m : ℕ) → maskGood m ≡ true → 1 ≤ m
-unfolding maskGood
-good-some m g = leb-true 1 m (both-fst (leb 1 m) _ g)
-
 -- two tests that hold alike are one
 same-test : (x y : Bool) → (x ≡ true → y ≡ true) → (y ≡ true → x ≡ true) → x ≡ y
 same-test true y f g = sym (f refl)

@@ -117,7 +117,7 @@ flag-back : (t : Bool) → not (eqb (flag t) 0) ≡ t
 flag-back true = refl
 flag-back false = refl
 
-pub scope-back : (s : Scope) (r : List ℕ) → scopeAt (scopeBytes s ++ r) 0 ≡ s
+scope-back : (s : Scope) (r : List ℕ) → scopeAt (scopeBytes s ++ r) 0 ≡ s
 unfolding scopeAt scopeBytes
 scope-back s r =
     let m : s .permissions / 256 * 256 + s .permissions % 256 ≡ s .permissions = omega arith in
@@ -139,7 +139,7 @@ length-scopesBytes (s ∷ ss) (more h hs) =
     let b = length-scopeBytes s h in
     simp length-append (omega arith)
 
-pub scopes-back : (ss : List Scope) (r : List ℕ) → Roomy ss → scopesAt (scopesBytes ss ++ r) 0 (length ss) ≡ ss
+scopes-back : (ss : List Scope) (r : List ℕ) → Roomy ss → scopesAt (scopesBytes ss ++ r) 0 (length ss) ≡ ss
 unfolding scopesAt scopesBytes
 scopes-back [] r none = refl
 scopes-back (s ∷ ss) r (more h hs) =
@@ -172,7 +172,7 @@ module _ (a : Acl) (h : RoomyAcl a) where
       let s = length-fill 288 (scopesBytes (a .scopes)) scopes-fit in
       simp length-append (omega arith)
 
-  pub acl-back : (r : List ℕ) → aclAt (aclBytes a ++ r) 0 ≡ a
+  acl-back : (r : List ℕ) → aclAt (aclBytes a ++ r) 0 ≡ a
   unfolding aclAt aclBytes aclHead wordBytes halfBytes
   acl-back r =
       let w = wordBytes (a .identity) in
@@ -205,7 +205,7 @@ length-aclsBytes (x ∷ xs) (more h hs) =
     let b = length-aclBytes x h in
     simp length-append (omega arith)
 
-pub acls-back : (xs : List Acl) (r : List ℕ) → RoomyAcls xs → aclsAt (aclsBytes xs ++ r) 0 (length xs) ≡ xs
+acls-back : (xs : List Acl) (r : List ℕ) → RoomyAcls xs → aclsAt (aclsBytes xs ++ r) 0 (length xs) ≡ xs
 unfolding aclsAt aclsBytes
 acls-back [] r none = refl
 acls-back (x ∷ xs) r (more h hs) =

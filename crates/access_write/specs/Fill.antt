@@ -1,6 +1,6 @@
 -- Zeros, into which parts are written at ascending places.
 use mathlib.Core.Path.{_≡_, sym, ap, ap₂, _∙_}
-use mathlib.Core.List.{List, [], _∷_, _++_, append-assoc, append-nil}
+use mathlib.Core.List.{List, [], _∷_, _++_, append-assoc}
 use Prim.Native.Nat.{ℕ, suc, _+_, _-_, _≤_}
 use native.Mathlib.Omega.{arith}
 use lib.ListN.{length, take, drop, replicate, length-append, length-replicate, replicate-append-replicate, set}
@@ -13,7 +13,7 @@ zeros-split n a h =
     let e : a + (n - a) ≡ n = omega arith in
     sym (replicate-append-replicate a (n - a) 0 ∙ ap (λ (k : ℕ). replicate k 0) e)
 
-pub gap-length : (a : ℕ) (bs xs : List ℕ) → length bs ≤ a → length (bs ++ (replicate (a - length bs) 0 ++ xs)) ≡ a + length xs
+gap-length : (a : ℕ) (bs xs : List ℕ) → length bs ≤ a → length (bs ++ (replicate (a - length bs) 0 ++ xs)) ≡ a + length xs
 gap-length a bs xs h = simp (length-append, length-replicate) (omega arith)
 
 gap-front : (a : ℕ) (bs : List ℕ) → length bs ≤ a → length (bs ++ replicate (a - length bs) 0) ≡ a
@@ -34,7 +34,7 @@ zeros-cut n a b k h l =
     sub-le2 n a k l = omega arith
 
 -- a part written past what was written
-pub fill-put : (n a : ℕ) (bs xs : List ℕ) → length bs ≤ a → a + length xs ≤ n
+fill-put : (n a : ℕ) (bs xs : List ℕ) → length bs ≤ a → a + length xs ≤ n
     → put (fill n bs) a xs ≡ fill n (bs ++ (replicate (a - length bs) 0 ++ xs))
 unfolding put fill
 fill-put n a bs xs h k =
@@ -54,11 +54,7 @@ fill-put n a bs xs h k =
     ∙ sym (append-assoc (bs ++ gap) xs rest) ∙ ap (λ (z : List ℕ). z ++ rest) (append-assoc bs gap xs)
     ∙ ap (λ (m : ℕ). (bs ++ (gap ++ xs)) ++ replicate m 0) n3
 
--- a full one, and one with a part in front
-pub fill-full : (n : ℕ) (xs : List ℕ) → length xs ≡ n → fill n xs ≡ xs
-unfolding fill
-fill-full n xs h = let e : n - length xs ≡ 0 = omega arith in ap (λ (m : ℕ). xs ++ replicate m 0) e ∙ append-nil xs
-
+-- with a part in front
 pub fill-past : (m n : ℕ) (h xs : List ℕ) → m ≡ length h + n → fill m (h ++ xs) ≡ h ++ fill n xs
 unfolding fill
 fill-past m n h xs e =

@@ -9,6 +9,7 @@ use Rattle.access.specs.Table.{Scope, Acl, Table, tableGood, everyScope, hostAc
 use Rattle.access.specs.Record.{fill, halfBytes, wordBytes, scopeBytes, scopesBytes, aclHead, aclBytes, aclsBytes, tableHead, tableBytes, tableOf}
 use Rattle.access.specs.Readback.{Roomy, RoomyAcl, RoomyAcls, RoomyTable, length-word, length-fill, length-scopeBytes, length-scopesBytes, length-aclsBytes, roomy-table, table-back}
 use Rattle.access_write.specs.Write.{put, emptyTable, putAcl, putScope, putScopes, putAcls}
+use Rattle.access_write.specs.Wrote.{Wrote}
 use Rattle.access_write.specs.Fill.{fill-past, fill-more, fill-zeros, fill-fill, put-past, set-past}
 
 scopes-snoc : (ss : List Scope) (s : Scope) → scopesBytes ss ++ scopeBytes s ≡ scopesBytes (ss ++ (s ∷ []))
@@ -197,3 +198,7 @@ empty-made v =
 pub length-empty : (v : ℕ) → length (wordBytes v ++ replicate 2952 0) ≡ 2960
 unfolding wordBytes halfBytes
 length-empty v = refl
+
+-- past a word
+pub word-next : (w : ℕ) {a b : ℕ} {l m : List ℕ} → Wrote a b (wordBytes w) l m → b ≡ a + 8
+word-next w r = let n = r .next in let k = length-word w in omega arith

@@ -15,13 +15,13 @@ pub record Wrote (a b : ℕ) (bs before after : List ℕ) : Type 0 where
   pub long : length after ≡ length before
   pub same : after ≡ put before a bs
 
-pub length-put : (l : List ℕ) (a : ℕ) (bs : List ℕ) → a + length bs ≤ length l → length (put l a bs) ≡ length l
+length-put : (l : List ℕ) (a : ℕ) (bs : List ℕ) → a + length bs ≤ length l → length (put l a bs) ≡ length l
 unfolding put
 length-put l a bs h = simp (length-append, length-take, length-drop) (omega arith)
 
 infixl 40 _then_
 -- a run after a run is one run
-pub put-put : (l : List ℕ) (a : ℕ) (xs ys : List ℕ) → a + length xs + length ys ≤ length l
+put-put : (l : List ℕ) (a : ℕ) (xs ys : List ℕ) → a + length xs + length ys ≤ length l
     → put (put l a xs) (a + length xs) ys ≡ put l a (xs ++ ys)
 unfolding put
 put-put l a xs ys h =
@@ -40,7 +40,7 @@ put-put l a xs ys h =
     ∙ append-assoc (take a l) xs (ys ++ drop (a + length (xs ++ ys)) l)
     ∙ ap (λ (w : List ℕ). take a l ++ w) (sym (append-assoc xs ys (drop (a + length (xs ++ ys)) l)))
 
-pub wrote : (a b : ℕ) (bs before after : List ℕ) → b ≡ a + length bs → b ≤ length before → after ≡ put before a bs → Wrote a b bs before after
+wrote : (a b : ℕ) (bs before after : List ℕ) → b ≡ a + length bs → b ≤ length before → after ≡ put before a bs → Wrote a b bs before after
 wrote a b bs before after n r s =
     record { next = n; room = r; long = ap length s ∙ length-put before a bs (omega arith); same = s }
 
@@ -60,14 +60,14 @@ _then_ {a} {b} {c} {xs} {ys} {l} {m} {n} p q =
 pub renamed : {a b : ℕ} {xs ys l m : List ℕ} → xs ≡ ys → Wrote a b xs l m → Wrote a b ys l m
 renamed e w = rw e at w
 
-pub wrote-none : (a : ℕ) (l : List ℕ) → a ≤ length l → Wrote a a [] l l
+wrote-none : (a : ℕ) (l : List ℕ) → a ≤ length l → Wrote a a [] l l
 unfolding put
 wrote-none a l h =
     let z : a + 0 ≡ a = omega arith in
     record { next = omega arith; room = h; long = refl; same = sym (ap (λ (k : ℕ). take a l ++ drop k l) z ∙ take-append-drop a l) }
 
 -- one store
-pub wrote-set : (l : List ℕ) (a b : ℕ) → a < length l → Wrote a (a + 1) (b ∷ []) l (set l a b)
+wrote-set : (l : List ℕ) (a b : ℕ) → a < length l → Wrote a (a + 1) (b ∷ []) l (set l a b)
 unfolding put
 wrote-set l a b h =
     wrote a (a + 1) (b ∷ []) l (set l a b) refl (omega arith)

@@ -1,8 +1,7 @@
 use mathlib.Core.Path.{_∙_, sym}
 use native.Mathlib.Omega.{arith}
-use Rattle.access.specs.Readback.{length-word}
 use Rattle.access_write.specs.Wrote.{_then_, wrote-whole}
-use Rattle.access_write.specs.Written.{length-empty, empty-made}
+use Rattle.access_write.specs.Written.{word-next, length-empty, empty-made}
 use borrow.Author.Needs.{needs}
 use Rattle.access_write.proofs.clear_table.Statement.{statement}
 use Rattle.access_write.proofs.clear_table.Tie as tie
@@ -13,7 +12,7 @@ put-word-requires c κs = search needs
 put-zeros-requires : tie.Need-put-zeros-requires
 put-zeros-requires c κs =
     let w = c .before .put-word .ensures in
-    let k = length-word (c .before .before .before .args .version) in
+    let n = word-next _ w in
     omega arith
 
 returns : tie.Need-returns

@@ -1,6 +1,6 @@
 use native.Mathlib.Omega.{arith}
 use Rattle.access.specs.Record.{wordBytes, halfBytes, aclHead}
-use Rattle.access.specs.Readback.{length-word}
+use Rattle.access_write.specs.Written.{word-next}
 use Rattle.access_write.specs.Wrote.{_then_}
 use borrow.Author.Needs.{needs}
 use Rattle.access_write.proofs.put_acl.Statement.{statement}
@@ -18,13 +18,13 @@ slice-aggregate-put-bytes c = search needs
 put-bytes-requires : tie.Need-put-bytes-requires
 put-bytes-requires c κs =
     let w = c .before .before .before .before .put-word .ensures in
-    let k = length-word (c .before .before .before .before .before .before .before .before .args .identity) in
+    let n = word-next _ w in
     omega arith
 
 put-filled-requires : tie.Need-put-filled-requires
 put-filled-requires c κs =
     let w = c .before .before .before .before .before .before .before .before .put-word .ensures in
-    let k = length-word (c .before .before .before .before .before .before .before .before .before .before .before .before .args .identity) in
+    let n = word-next _ w in
     let p = c .before .before .before .put-bytes .ensures in
     (omega arith, c .before .before .before .before .before .before .before .before .before .before .before .before .pre .1)
 
