@@ -1,0 +1,12 @@
+pub mod Encode
+pub mod Examples
+pub mod Basics
+pub mod Depth
+pub mod Back
+pub mod Cost
+pub mod FitsLaws
+pub mod LookUps
+pub mod FitsTest
+pub mod FitsTestLaws
+pub mod Sample
+pub mod Canonical

@@ -1,0 +1,6 @@
+pub mod Tables
+pub mod Bits
+pub mod Judging
+pub mod Walking
+pub mod Storing
+pub mod Nesting

@@ -1,0 +1,42 @@
+-- The table's rule at a number, and whether an enum names a value, from the arm of a `match` that was taken.
+use Prim.Native.Nat.{ℕ}
+use mathlib.Core.Path.{_≡_, refl, sym, ap₂}
+use mathlib.Core.List.{List, [], _∷_}
+use mathlib.Core.Bool.{false}
+use borrow.Author.Tests.{ne-eqb}
+use Rattle.fields.specs.Rules.{namesOf, Table, end, row, look, tableOf, ruleOf}
+use Rattle.fields.specs.Tree.{among}
+use Rattle.fields.specs.declared.table.Kind.{Kind}
+use Rattle.fields.specs.declared.table.Names.{Names}
+use Rattle.fields.specs.declared.table.Rule.the-variants.{Unlisted}
+
+-- an arm with a number: the rule is the row's
+pub in-arm : {k k' : Kind} {n m : ℕ} → k ≡ k' → n ≡ m → ruleOf k' m ≡ ruleOf k n
+in-arm p q = ap₂ ruleOf (sym p) (sym q)
+
+-- the last arm: n is none of the table's numbers
+abbrev pub offs : ℕ → Type 0 → Table → Type 0
+offs n A end = A
+offs n A (row m r t) = offs n (A × (n ≡ m → ⊥)) t
+
+off : (n : ℕ) (A : Type 0) (t : Table) → offs n A t → A × (Unlisted ≡ look n t)
+off n A end x = (x, refl)
+off n A (row m r t) x = let i = off n (A × (n ≡ m → ⊥)) t x in (i .0 .0, rw (ne-eqb n m (i .0 .1)) (i .1))
+
+pub in-none : {k : Kind} (n : ℕ) (k' : Kind) → k ≡ k' → offs n (Unit {0}) (tableOf k') → Unlisted ≡ ruleOf k n
+in-none {k} n k' p h = rw p (off n (Unit {0}) (tableOf k') h .1)
+
+-- the same of the values that an enum names
+pub in-name : {e e' : Names} {v m : ℕ} → e ≡ e' → v ≡ m → among m (namesOf e') ≡ among v (namesOf e)
+in-name p q = ap₂ (λ e v. among v (namesOf e)) (sym p) (sym q)
+
+abbrev pub offNames : ℕ → Type 0 → List ℕ → Type 0
+offNames v A [] = A
+offNames v A (n ∷ ns) = offNames v (A × (v ≡ n → ⊥)) ns
+
+off-names : (v : ℕ) (A : Type 0) (ns : List ℕ) → offNames v A ns → A × (false ≡ among v ns)
+off-names v A [] x = (x, refl)
+off-names v A (n ∷ ns) x = let i = off-names v (A × (v ≡ n → ⊥)) ns x in (i .0 .0, rw (ne-eqb v n (i .0 .1)) (i .1))
+
+pub no-name : {e : Names} (v : ℕ) (e' : Names) → e ≡ e' → offNames v (Unit {0}) (namesOf e') → false ≡ among v (namesOf e)
+no-name {e} v e' p h = rw p (off-names v (Unit {0}) (namesOf e') h .1)

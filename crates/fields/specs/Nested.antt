@@ -1,0 +1,14 @@
+-- Whether what a field holds can be opened.
+use Prim.Native.Nat.{ℕ}
+use mathlib.Core.List.{List}
+use mathlib.Core.Bool.{Bool, true, false}
+use lib.ListN.{take, drop}
+use Rattle.fields.specs.Tree.{isSome, listed}
+use Rattle.fields.specs.declared.judge.Taken.{Taken}
+use Rattle.fields.specs.declared.judge.Taken.the-variants.{Number, Slice, Inside, Wrong}
+
+abbrev pub opensTaken : List ℕ → Taken → Bool
+opensTaken s (Number v) = true
+opensTaken s (Slice start len) = true
+opensTaken s (Inside k start len) = isSome (listed k (take len (drop start s)))
+opensTaken s Wrong = false

@@ -1,0 +1,244 @@
+// The kinds of message, and how each listed field of a kind is read. The last four kinds are for reading replies.
+ghost use mathlib.Core.Path.{_≡_};
+ghost use Rattle.fields.specs.Rules.{namesOf, ruleOf, strictOf};
+ghost use Rattle.fields.specs.Tree.{among};
+
+pub enum Kind {
+    Message,
+    HmacAuth,
+    Command,
+    Header,
+    Body,
+    KeyValue,
+    Range,
+    Setup,
+    Security,
+    Acl,
+    Scope,
+    ReplyCommand,
+    ReplyBody,
+    ReplyRange,
+    Status,
+}
+
+// The enums whose values document 01 names.
+pub enum Names {
+    Priority,
+    Algorithm,
+    Synchronization,
+    StatusCode,
+}
+
+// How a listed field is read. An enum that is judged later is an Int32; Opaque is bytes not looked into.
+pub enum Form {
+    Int64,
+    Int32,
+    Named(Names),
+    Flag,
+    Bytes,
+    Opaque,
+    Nested(Kind),
+}
+
+// What a field number means in a kind: not listed, refused if present, at most once, or any number of times.
+pub enum Rule {
+    Unlisted,
+    Refused,
+    Single(Form),
+    Repeated(Form),
+}
+
+// Whether an enum names a value.
+pub fn named(e: Names, v: u64) -> bool
+    ensures { λ r. ⌜ r ≡ among v (namesOf e) ⌝ }
+{
+    match e {
+        Names::Priority => match v {
+            1 => true,
+            3 => true,
+            5 => true,
+            7 => true,
+            9 => true,
+            _ => false,
+        },
+        Names::Algorithm => match v {
+            1 => true,
+            2 => true,
+            3 => true,
+            4 => true,
+            5 => true,
+            6 => true,
+            _ => false,
+        },
+        Names::Synchronization => match v {
+            1 => true,
+            2 => true,
+            3 => true,
+            _ => false,
+        },
+        Names::StatusCode => match v {
+            1 => true,
+            2 => true,
+            3 => true,
+            4 => true,
+            6 => true,
+            7 => true,
+            8 => true,
+            14 => true,
+            15 => true,
+            16 => true,
+            20 => true,
+            _ => false,
+        },
+    }
+}
+
+// Whether an unlisted number refuses a message of the kind.
+pub fn strict(k: Kind) -> bool
+    ensures { λ r. ⌜ r ≡ strictOf k ⌝ }
+{
+    match k {
+        Kind::Message => false,
+        Kind::HmacAuth => false,
+        Kind::Command => false,
+        Kind::Header => false,
+        Kind::Body => false,
+        Kind::KeyValue => false,
+        Kind::Range => false,
+        Kind::Setup => false,
+        Kind::Security => true,
+        Kind::Acl => true,
+        Kind::Scope => true,
+        Kind::ReplyCommand => false,
+        Kind::ReplyBody => false,
+        Kind::ReplyRange => false,
+        Kind::Status => false,
+    }
+}
+
+// What a number means in a kind.
+pub fn rule_of(k: Kind, n: u64) -> Rule
+    ensures { λ r. ⌜ r ≡ ruleOf k n ⌝ }
+{
+    match k {
+        Kind::Message => match n {
+            4 => Rule::Single(Form::Int32),
+            5 => Rule::Single(Form::Nested(Kind::HmacAuth)),
+            6 => Rule::Single(Form::Opaque),
+            7 => Rule::Single(Form::Bytes),
+            _ => Rule::Unlisted,
+        },
+        Kind::HmacAuth => match n {
+            1 => Rule::Single(Form::Int64),
+            2 => Rule::Single(Form::Bytes),
+            _ => Rule::Unlisted,
+        },
+        Kind::Command => match n {
+            1 => Rule::Single(Form::Nested(Kind::Header)),
+            2 => Rule::Single(Form::Nested(Kind::Body)),
+            3 => Rule::Single(Form::Opaque),
+            _ => Rule::Unlisted,
+        },
+        Kind::Header => match n {
+            1 => Rule::Single(Form::Int64),
+            3 => Rule::Single(Form::Int64),
+            4 => Rule::Single(Form::Int64),
+            6 => Rule::Single(Form::Int64),
+            7 => Rule::Single(Form::Int32),
+            9 => Rule::Single(Form::Int64),
+            10 => Rule::Single(Form::Flag),
+            12 => Rule::Single(Form::Named(Names::Priority)),
+            13 => Rule::Single(Form::Int64),
+            14 => Rule::Refused,
+            _ => Rule::Unlisted,
+        },
+        Kind::Body => match n {
+            1 => Rule::Single(Form::Nested(Kind::KeyValue)),
+            2 => Rule::Single(Form::Nested(Kind::Range)),
+            3 => Rule::Single(Form::Nested(Kind::Setup)),
+            4 => Rule::Refused,
+            6 => Rule::Refused,
+            7 => Rule::Single(Form::Nested(Kind::Security)),
+            8 => Rule::Refused,
+            9 => Rule::Refused,
+            10 => Rule::Refused,
+            _ => Rule::Unlisted,
+        },
+        Kind::KeyValue => match n {
+            2 => Rule::Single(Form::Bytes),
+            3 => Rule::Single(Form::Bytes),
+            4 => Rule::Single(Form::Bytes),
+            5 => Rule::Single(Form::Bytes),
+            6 => Rule::Single(Form::Named(Names::Algorithm)),
+            7 => Rule::Single(Form::Flag),
+            8 => Rule::Single(Form::Flag),
+            9 => Rule::Single(Form::Named(Names::Synchronization)),
+            _ => Rule::Unlisted,
+        },
+        Kind::Range => match n {
+            1 => Rule::Single(Form::Bytes),
+            2 => Rule::Single(Form::Bytes),
+            3 => Rule::Single(Form::Flag),
+            4 => Rule::Single(Form::Flag),
+            5 => Rule::Single(Form::Int32),
+            6 => Rule::Single(Form::Flag),
+            8 => Rule::Refused,
+            _ => Rule::Unlisted,
+        },
+        Kind::Setup => match n {
+            1 => Rule::Single(Form::Int64),
+            5 => Rule::Refused,
+            _ => Rule::Unlisted,
+        },
+        Kind::Security => match n {
+            2 => Rule::Repeated(Form::Nested(Kind::Acl)),
+            _ => Rule::Unlisted,
+        },
+        Kind::Acl => match n {
+            1 => Rule::Single(Form::Int64),
+            2 => Rule::Single(Form::Bytes),
+            3 => Rule::Single(Form::Int32),
+            4 => Rule::Repeated(Form::Nested(Kind::Scope)),
+            _ => Rule::Unlisted,
+        },
+        Kind::Scope => match n {
+            1 => Rule::Single(Form::Int64),
+            2 => Rule::Single(Form::Bytes),
+            3 => Rule::Repeated(Form::Int32),
+            4 => Rule::Single(Form::Flag),
+            _ => Rule::Unlisted,
+        },
+        Kind::ReplyCommand => match n {
+            1 => Rule::Single(Form::Nested(Kind::Header)),
+            2 => Rule::Single(Form::Nested(Kind::ReplyBody)),
+            3 => Rule::Single(Form::Nested(Kind::Status)),
+            _ => Rule::Unlisted,
+        },
+        Kind::ReplyBody => match n {
+            1 => Rule::Single(Form::Nested(Kind::KeyValue)),
+            2 => Rule::Single(Form::Nested(Kind::ReplyRange)),
+            3 => Rule::Single(Form::Nested(Kind::Setup)),
+            4 => Rule::Refused,
+            6 => Rule::Refused,
+            7 => Rule::Single(Form::Nested(Kind::Security)),
+            8 => Rule::Refused,
+            9 => Rule::Refused,
+            10 => Rule::Refused,
+            _ => Rule::Unlisted,
+        },
+        Kind::ReplyRange => match n {
+            1 => Rule::Single(Form::Bytes),
+            2 => Rule::Single(Form::Bytes),
+            3 => Rule::Single(Form::Flag),
+            4 => Rule::Single(Form::Flag),
+            5 => Rule::Single(Form::Int32),
+            6 => Rule::Single(Form::Flag),
+            8 => Rule::Repeated(Form::Bytes),
+            _ => Rule::Unlisted,
+        },
+        Kind::Status => match n {
+            1 => Rule::Single(Form::Named(Names::StatusCode)),
+            _ => Rule::Unlisted,
+        },
+    }
+}

@@ -1,0 +1,101 @@
+// The reading of a command for C, as the benchmark links it.
+ghost use mathlib.Core.Path.{_≡_};
+ghost use Prim.Native.Nat.{_<_};
+ghost use Rattle.wire.specs.Reader.{choose};
+ghost use Rattle.fields.specs.Tree.{isSome, listed};
+ghost use Rattle.fields.specs.Slots.{Sized};
+use fields::nested::reads;
+use fields::slots::Slots;
+use fields::slots::collect;
+use fields::table::Kind;
+
+fn answer(decodes: bool) -> u32
+    ensures { λ r. ⌜ r ≡ choose decodes 0 1 ⌝ }
+{
+    if decodes {
+        return 0;
+    }
+    1
+}
+
+// 0 if the command decodes, else 1.
+#[no_mangle]
+pub extern "C" fn fields_reads(s: &[u8]) -> u32
+    ensures { λ r. ⌜ r ≡ choose (isSome (listed (Kind.Command) (now (s .entry)))) 0 1 ⌝ }
+{
+    answer(reads(s, Kind::Command))
+}
+
+// The message in field n; nothing where there is none.
+fn inside(s: &[u8], t: Slots, n: usize) -> &[u8]
+    requires { ⌜ Sized t × (n < 16) ⌝ }
+{
+    let start = t.value[n] as usize;
+    let len = t.len[n];
+    if start <= s.len() {
+        if len <= s.len() - start {
+            let end = start + len;
+            return &s[start..end];
+        }
+    }
+    &s[..0]
+}
+
+// The header's numbers: cluster version, connection, sequence, type.
+fn header(s: &[u8], out: &mut [u64; 16]) {
+    let t = collect(s, Kind::Header);
+    let ok = t.ok;
+    if ok {
+        out[0] = t.value[1];
+        out[1] = t.value[3];
+        out[2] = t.value[4];
+        out[3] = t.value[7];
+    }
+}
+
+// New version, key, stored version and tag, each by its start and its length; the algorithm.
+fn key_value(s: &[u8], out: &mut [u64; 16]) {
+    let t = collect(s, Kind::KeyValue);
+    let ok = t.ok;
+    if ok {
+        out[4] = t.value[2];
+        out[5] = t.len[2] as u64;
+        out[6] = t.value[3];
+        out[7] = t.len[3] as u64;
+        out[8] = t.value[4];
+        out[9] = t.len[4] as u64;
+        out[10] = t.value[5];
+        out[11] = t.len[5] as u64;
+        out[12] = t.value[6];
+    }
+}
+
+fn body(s: &[u8], out: &mut [u64; 16]) {
+    let t = collect(s, Kind::Body);
+    let ok = t.ok;
+    if ok {
+        key_value(inside(s, t, 1), out);
+    }
+}
+
+// What the command of a PUT holds.
+fn values(s: &[u8], out: &mut [u64; 16]) {
+    let t = collect(s, Kind::Command);
+    let ok = t.ok;
+    if ok {
+        header(inside(s, t, 1), out);
+        body(inside(s, t, 2), out);
+    }
+}
+
+// 0 if the command decodes, and then what that of a PUT holds, for measuring alone: no promise says what is written; else 1.
+#[no_mangle]
+pub extern "C" fn fields_put(s: &[u8], out: &mut [u64; 16]) -> u32
+    ensures { λ r. ⌜ r ≡ choose (isSome (listed (Kind.Command) (now (s .entry)))) 0 1 ⌝ }
+{
+    let decodes = reads(s, Kind::Command);
+    if decodes {
+        values(s, out);
+    }
+    answer(decodes)
+}

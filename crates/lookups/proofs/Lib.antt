@@ -1,0 +1,3 @@
+pub mod Slotted
+pub mod Seeking
+pub mod Nexts

@@ -1,0 +1,4 @@
+pub mod Views
+pub mod Values
+pub mod LevelLaws
+pub mod RepeatedLaws

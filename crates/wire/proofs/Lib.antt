@@ -1,0 +1,2 @@
+pub mod VarintPlaces
+pub mod FieldPlaces

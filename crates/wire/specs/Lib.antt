@@ -1,0 +1,10 @@
+pub mod Reader
+pub mod ReaderLaws
+pub mod Wire
+pub mod WireLaws
+pub mod Varint
+pub mod VarintLaws
+pub mod VarintAnswer
+pub mod FieldAnswer
+pub mod Signed
+pub mod SignedLaws

@@ -1,0 +1,3 @@
+pub mod Pushed
+pub mod PushedLaws
+pub mod TreeParts

@@ -1,0 +1,169 @@
+// Writers of fields. A message is written from its end to its front, so that the length of each part is known when its head is due:
+// each writer puts its bytes right before `at` and returns where they start. All other bytes of the buffer stay as they are.
+ghost use mathlib.Core.Path.{_≡_};
+ghost use mathlib.Core.List.{[], _∷_};
+ghost use Prim.Native.Nat.{_+_, _^_, _<_, _≤_};
+ghost use lib.ListN.{length};
+ghost use Rattle.wire.specs.Varint.{varintBytes};
+ghost use Rattle.fields.specs.Tree.{done};
+ghost use Rattle.encoding.specs.Encode.{tag, intField, head, lenField, encode, intO, intIf, rawIf};
+ghost use Rattle.writers.specs.Pushed.{Pushed, Starts, be32, maybe};
+
+// A number, or none.
+pub enum Maybe {
+    Nothing,
+    Number(u64),
+}
+
+pub fn push_byte(out: &mut [u8], at: usize, b: u8) -> usize
+    requires { ⌜ (1 ≤ at) × (at ≤ length (now out)) ⌝ }
+    ensures { λ r. ⌜ Pushed r at (b ∷ []) (now (out .entry)) (now (out .exit)) ⌝ }
+{
+    let p = at - 1;
+    out[p] = b;
+    p
+}
+
+// The low 32 bits of `v` as four bytes, the highest first.
+pub fn push_be32(out: &mut [u8], at: usize, v: usize) -> usize
+    requires { ⌜ (4 ≤ at) × (at ≤ length (now out)) ⌝ }
+    ensures { λ r. ⌜ Pushed r at (be32 v) (now (out .entry)) (now (out .exit)) ⌝ }
+{
+    let a = push_byte(out, at, (v % 256) as u8);
+    let b = push_byte(out, a, (v / 256 % 256) as u8);
+    let c = push_byte(out, b, (v / 65536 % 256) as u8);
+    push_byte(out, c, (v / 16777216 % 256) as u8)
+}
+
+// The bytes of `src`.
+pub fn push_bytes(out: &mut [u8], at: usize, src: &[u8]) -> usize
+    requires { ⌜ (length (now src) ≤ at) × (at ≤ length (now out)) ⌝ }
+    ensures { λ r. ⌜ Pushed r at (now (src .entry)) (now (out .entry)) (now (out .exit)) ⌝ }
+{
+    let p = at - src.len();
+    let mut i = 0;
+    while i < src.len() {
+        out[p + i] = src[i];
+        i += 1;
+    }
+    p
+}
+
+// The bytes of `src` at the start of `out`; how many they are.
+pub fn copy(out: &mut [u8], src: &[u8]) -> usize
+    requires { ⌜ length (now src) ≤ length (now out) ⌝ }
+    ensures { λ r. ⌜ Starts r (now (src .entry)) (now (out .entry)) (now (out .exit)) ⌝ }
+{
+    let n = src.len();
+    push_bytes(out, n, src);
+    n
+}
+
+// How many bytes the shortest varint of `v` has.
+fn varint_len(v: u64) -> usize
+    ensures { λ r. ⌜ r ≡ length (varintBytes v) ⌝ }
+{
+    let mut n = 1;
+    let mut rest = v;
+    while 128 <= rest {
+        rest /= 128;
+        n += 1;
+    }
+    n
+}
+
+// A varint of any length, forwards from where it starts.
+fn push_groups(out: &mut [u8], at: usize, v: u64) -> usize
+    requires { ⌜ (length (varintBytes v) ≤ at) × (at ≤ length (now out)) ⌝ }
+    ensures { λ r. ⌜ Pushed r at (varintBytes v) (now (out .entry)) (now (out .exit)) ⌝ }
+{
+    let p = at - varint_len(v);
+    let mut k = 0;
+    let mut rest = v;
+    while 128 <= rest {
+        out[p + k] = (rest % 128 + 128) as u8;
+        rest /= 128;
+        k += 1;
+    }
+    out[p + k] = rest as u8;
+    p
+}
+
+// The shortest varint of `v`. Most are of one byte.
+pub fn push_varint(out: &mut [u8], at: usize, v: u64) -> usize
+    requires { ⌜ (length (varintBytes v) ≤ at) × (at ≤ length (now out)) ⌝ }
+    ensures { λ r. ⌜ Pushed r at (varintBytes v) (now (out .entry)) (now (out .exit)) × (at ≤ r + 10) ⌝ }
+{
+    if 128 <= v {
+        return push_groups(out, at, v);
+    }
+    push_byte(out, at, v as u8)
+}
+
+// A tag: field number and wire type.
+pub fn push_tag(out: &mut [u8], at: usize, n: u64, w: u64) -> usize
+    requires { ⌜ (n < 2 ^ 29) × (w < 8) × (5 ≤ at) × (at ≤ length (now out)) ⌝ }
+    ensures { λ r. ⌜ Pushed r at (tag n w) (now (out .entry)) (now (out .exit)) × (at ≤ r + 5) ⌝ }
+{
+    push_varint(out, at, 8 * n + w)
+}
+
+// Field `n`, a number.
+pub fn push_int(out: &mut [u8], at: usize, n: u64, v: u64) -> usize
+    requires { ⌜ (n < 2 ^ 29) × (15 ≤ at) × (at ≤ length (now out)) ⌝ }
+    ensures { λ r. ⌜ Pushed r at (intField n v) (now (out .entry)) (now (out .exit)) × (at ≤ r + 15) ⌝ }
+{
+    let a = push_varint(out, at, v);
+    push_tag(out, a, n, 0)
+}
+
+// What stands before the `len` bytes of field `n`.
+pub fn push_head(out: &mut [u8], at: usize, n: u64, len: usize) -> usize
+    requires { ⌜ (n < 2 ^ 29) × (15 ≤ at) × (at ≤ length (now out)) ⌝ }
+    ensures { λ r. ⌜ Pushed r at (head n len) (now (out .entry)) (now (out .exit)) × (at ≤ r + 15) ⌝ }
+{
+    let a = push_varint(out, at, len as u64);
+    push_tag(out, a, n, 2)
+}
+
+// Field `n`, bytes.
+pub fn push_raw(out: &mut [u8], at: usize, n: u64, src: &[u8]) -> usize
+    requires { ⌜ (n < 2 ^ 29) × (15 + length (now src) ≤ at) × (at ≤ length (now out)) ⌝ }
+    ensures { λ r. ⌜ Pushed r at (lenField n (now (src .entry))) (now (out .entry)) (now (out .exit)) × (at ≤ r + 15 + length (now (src .entry))) ⌝ }
+{
+    let a = push_bytes(out, at, src);
+    push_head(out, a, n, src.len())
+}
+
+// Field `n`, a number if there is one.
+pub fn push_maybe(out: &mut [u8], at: usize, n: u64, m: Maybe) -> usize
+    requires { ⌜ (n < 2 ^ 29) × (15 ≤ at) × (at ≤ length (now out)) ⌝ }
+    ensures { λ r. ⌜ Pushed r at (encode (intO n (maybe m) done)) (now (out .entry)) (now (out .exit)) × (at ≤ r + 15) ⌝ }
+{
+    match m {
+        Maybe::Nothing => at,
+        Maybe::Number(v) => push_int(out, at, n, v),
+    }
+}
+
+// Field `n`, a number if it is not 0.
+pub fn push_nonzero(out: &mut [u8], at: usize, n: u64, v: u64) -> usize
+    requires { ⌜ (n < 2 ^ 29) × (15 ≤ at) × (at ≤ length (now out)) ⌝ }
+    ensures { λ r. ⌜ Pushed r at (encode (intIf n v done)) (now (out .entry)) (now (out .exit)) × (at ≤ r + 15) ⌝ }
+{
+    if v == 0 {
+        return at;
+    }
+    push_int(out, at, n, v)
+}
+
+// Field `n`, bytes if there are any.
+pub fn push_nonempty(out: &mut [u8], at: usize, n: u64, src: &[u8]) -> usize
+    requires { ⌜ (n < 2 ^ 29) × (15 + length (now src) ≤ at) × (at ≤ length (now out)) ⌝ }
+    ensures { λ r. ⌜ Pushed r at (encode (rawIf n (now (src .entry)) done)) (now (out .entry)) (now (out .exit)) × (at ≤ r + 15 + length (now (src .entry))) ⌝ }
+{
+    if src.len() == 0 {
+        return at;
+    }
+    push_raw(out, at, n, src)
+}

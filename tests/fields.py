@@ -1,0 +1,238 @@
+#!/usr/bin/env python3
+"""What crates/fields_main is run on (its stdin) and must write (its stdout), and what crates/writers_main must write.
+
+  tests/fields.py              writes these files
+  tests/fields.py --check      says whether they are as this script makes them
+  tests/fields.py --hex NAME   prints the bytes of a message of messages.txt
+
+Each line of fields_main's stdin is a kind, as two hex digits, and the bytes of a message of that kind, in hex. Each line of its stdout is what
+the message says: n=VALUE; a number, n:HEX; bytes, n{..} a message, or 'refused'. writers_main writes the messages of the list WRITTEN, in hex.
+
+The bytes come from `protoc --encode` for the messages of messages.txt, whose lines are worked out here from their text and from kinetic.proto;
+and from the list RAW below, whose lines are worked out by hand. Nothing here is taken from the program. protoc is Debian's
+protobuf-compiler; if it is missing it is installed by that name.
+"""
+import ast, os, re, shutil, subprocess, sys
+
+HERE = os.path.dirname(os.path.abspath(__file__))
+CRATES = os.path.join(HERE, "..", "crates")
+
+KINDS = ["Message", "HmacAuth", "Command", "Header", "Body", "KeyValue", "Range", "Setup", "Security", "Acl", "Scope",
+         "ReplyCommand", "ReplyBody", "ReplyRange", "Status"]
+
+# Document 01, "Frame and fields", of the messages of kinetic.proto.
+REFUSED = {("Header", 14), ("Body", 4), ("Body", 6), ("Body", 8), ("Body", 9), ("Body", 10), ("Range", 8), ("Setup", 5)}
+OPAQUE = {("Message", 6), ("Command", 3)}
+STRICT_UNLISTED = {("Security", 3), ("Security", 4), ("Security", 5), ("Security", 6), ("ACL", 5)}
+SKIPPED = {("Status", 2), ("Status", 3)}
+NAMED = {("Header", 12): {1, 3, 5, 7, 9}, ("KeyValue", 6): {1, 2, 3, 4, 5, 6}, ("KeyValue", 9): {1, 2, 3},
+         ("Status", 1): {1, 2, 3, 4, 6, 7, 8, 14, 15, 16, 20}}
+# "For reading replies, Range 8 is a repeated b and Status 1 is e code"
+AS_REPLY = {("Range", 8), ("Command", 3)}
+
+
+class Refused(Exception):
+    pass
+
+
+def proto():
+    """The fields of each message, by name: number and type; and the values of each enum."""
+    fields, enums, within = {}, {}, []
+    for line in open(os.path.join(HERE, "kinetic.proto")):
+        line = line.split("//")[0].strip()
+        if m := re.match(r"(message|enum) (\w+) {$", line):
+            within.append(m.groups())
+            (fields if m[1] == "message" else enums).setdefault(m[2], {})
+        elif line == "}":
+            within.pop()
+        elif m := re.match(r"(?:optional|repeated) (\w+) (\w+) = (\d+);$", line):
+            fields[within[-1][1]][m[2]] = (int(m[3]), m[1])
+        elif m := re.match(r"(\w+) = (-?\d+);$", line):
+            enums[within[-1][1]][m[1]] = int(m[2])
+    return fields, enums
+
+
+def parsed(words):
+    """A text-format message: a list of names and values, each a word or again a list."""
+    found = []
+    while words and words[0] != "}":
+        name = words.pop(0)
+        if words[0] == ":":
+            words.pop(0)
+            found.append((name, words.pop(0)))
+        else:
+            words.pop(0)
+            found.append((name, parsed(words)))
+            words.pop(0)
+    return found
+
+
+def says(message, said, reply):
+    """The listed fields of a message, in the order of their numbers, as protoc writes them."""
+    shown = []
+    for name, value in said:
+        number, kind = FIELDS[message][name]
+        place = (message, number)
+        if place in STRICT_UNLISTED or (place in REFUSED and not (reply and place in AS_REPLY)):
+            raise Refused
+        if place in SKIPPED:
+            continue
+        if place in OPAQUE and not (reply and place in AS_REPLY):
+            shown.append((number, f"{number}:;"))
+        elif kind in FIELDS:
+            shown.append((number, f"{number}{{{says(kind, value, reply)}}}"))
+        elif kind in ("bytes", "string"):
+            shown.append((number, f"{number}:{ast.literal_eval('b' + value).hex()};"))
+        else:
+            n = int(value == "true") if kind == "bool" else ENUMS[kind][value] if kind in ENUMS else int(value)
+            if place in NAMED and n not in NAMED[place]:
+                raise Refused
+            shown.append((number, f"{number}={n};"))
+    return "".join(text for _, text in sorted(shown, key=lambda s: s[0]))
+
+
+def encoded(message, text):
+    if not shutil.which("protoc"):
+        for step in ["update"], ["install", "-y", "protobuf-compiler"]:
+            subprocess.run(["apt-get", "-q", *step], check=True, stdout=subprocess.DEVNULL)
+    return subprocess.run(["protoc", f"--proto_path={HERE}", f"--encode={message}", "kinetic.proto"],
+                          input=text.encode(), stdout=subprocess.PIPE, check=True).stdout
+
+
+def messages():
+    for part in re.split(r"^== ", open(os.path.join(HERE, "messages.txt")).read(), flags=re.M)[1:]:
+        head, text = part.split("\n", 1)
+        name, kind = head.split()
+        message = kind.replace("Reply", "")
+        words = re.findall(r'"(?:[^"\\]|\\.)*"|[{}:]|[^\s{}:]+', text)
+        try:
+            line = says(message, parsed(words), kind.startswith("Reply"))
+        except Refused:
+            line = "refused"
+        yield name, kind, encoded(message, text), line
+
+
+# Worked by hand: a kind, bytes, and the line.
+RAW = [
+    # The public Protocol Buffers encoding page: Test1 with a = 150, Test2 with b = "testing", Test3 with an embedded Test1 in field 3, the
+    # packed numbers 3, 270 and 86942 in field 6, where a Header has a single number and so another wire type
+    ("Setup", "089601", "1=150;"),
+    ("HmacAuth", "120774657374696e67", "2:74657374696e67;"),
+    ("Body", "1a03089601", "3{1=150;}"),
+    ("Header", "3206038e029ea705", "refused"),
+    # the same page: -2 as an int64
+    ("Setup", "08feffffffffffffffff01", "1=-2;"),
+    # document 01: -1 is FF nine times, then 01
+    ("Setup", "08ffffffffffffffffff01", "1=-1;"),
+    ("Setup", "0880808080808080808001", "1=-9223372036854775808;"),
+    ("Setup", "08ffffffffffffffff7f", "1=9223372036854775807;"),
+    # longer than needed: the number, the tag, a length
+    ("Setup", "08968100", "1=150;"),
+    ("Setup", "0896818080808080808000", "1=150;"),
+    ("Setup", "8880808080808080800000", "1=0;"),
+    ("HmacAuth", "928000878080808080808080007465" "7374696e67", "2:74657374696e67;"),
+    # a tenth byte of 2, an eleventh byte, a cut varint, no value
+    ("Setup", "0880808080808080808002", "refused"),
+    ("Setup", "088080808080808080808000", "refused"),
+    ("Setup", "0896", "refused"),
+    ("Setup", "08", "refused"),
+    # a tag of 2^32, field number 0, wire types 3, 4, 6, 7
+    ("Setup", "808080801001", "refused"),
+    ("Setup", "0001", "refused"),
+    ("Setup", "13", "refused"),
+    ("Setup", "14", "refused"),
+    ("Setup", "16", "refused"),
+    ("Setup", "17", "refused"),
+    # the largest field number, 2^29 - 1, not listed: a varint, eight bytes, bytes, four bytes
+    ("Setup", "f8ffffff0f01" "0801", "1=1;"),
+    ("Setup", "f9ffffff0f0102030405060708" "0801", "1=1;"),
+    ("Setup", "faffffff0f03010203" "0801", "1=1;"),
+    ("Setup", "fdffffff0f01020304" "0801", "1=1;"),
+    # the same cut
+    ("Setup", "0801" "f9ffffff0f01020304050607", "refused"),
+    ("Setup", "0801" "faffffff0f030102", "refused"),
+    ("Setup", "0801" "fdffffff0f010203", "refused"),
+    # a single field twice, another wire type
+    ("Setup", "08010801", "refused"),
+    ("Setup", "0d01000000", "refused"),
+    ("HmacAuth", "1001", "refused"),
+    # int32: 2^31 - 1, -2^31, 2^31, 2^32 - 1, -2^31 - 1
+    ("Message", "20ffffffff07", "4=2147483647;"),
+    ("Message", "2080808080f8ffffffff01", "4=-2147483648;"),
+    ("Message", "208080808008", "refused"),
+    ("Message", "20ffffffff0f", "refused"),
+    ("Message", "20fffffffff7ffffffff01", "refused"),
+    # a bool is true if not zero: any of its 64 bits
+    ("KeyValue", "3802", "7=1;"),
+    ("KeyValue", "3880808080808080808001", "7=1;"),
+    ("KeyValue", "388000", "7=0;"),
+    # enums with their named values
+    ("Header", "6003", "12=3;"),
+    ("Header", "6002", "refused"),
+    ("KeyValue", "3006", "6=6;"),
+    ("KeyValue", "3007", "refused"),
+    ("KeyValue", "4803", "9=3;"),
+    ("KeyValue", "4800", "refused"),
+    # a field 15 that is not listed: skipped, but inside Security, ACL and Scope
+    ("Command", "7801" "12067801" "0a027801" "7801", "2{1{}}"),
+    ("Command", "12" "0a" "3a08" "1206" "2204" "1800" "1801", "2{7{2{4{3=0;3=1;}}}}"),
+    ("Command", "12" "0a" "3a08" "1206" "2204" "1800" "7801", "refused"),
+    ("Command", "12" "0a" "3a08" "1206" "2202" "1800" "7801", "refused"),
+    ("Command", "12" "0a" "3a08" "1204" "2202" "1800" "7801", "refused"),
+    ("Command", "12" "0a" "3a06" "1204" "2202" "1800" "7801", "2{7{2{4{3=0;}}}}"),
+    # a packed permission list
+    ("Scope", "1a020001", "refused"),
+]
+
+
+# What writers_main writes: a type of kinetic.proto, a message in text format, and its bytes where a paper gives them: the encoding page's 150,
+# "testing", embedded message and -2, and document 01's -1, W1 and W2.
+WRITTEN = [
+    ("Command.Setup", "newClusterVersion: 150", "089601"),
+    ("Message.HMACauth", 'hmac: "testing"', "120774657374696e67"),
+    ("Command.Body", "setup { newClusterVersion: 150 }", "1a03089601"),
+    ("Command.Setup", "newClusterVersion: -2", "08feffffffffffffffff01"),
+    ("Command.Setup", "newClusterVersion: -1", "08ffffffffffffffffff01"),
+    ("Command.Setup", "newClusterVersion: 0", None),
+    ("Command.Setup", "newClusterVersion: 127", None),
+    ("Command.Setup", "newClusterVersion: 128", None),
+    ("Command.Setup", "newClusterVersion: 9223372036854775807", None),
+    ("Command.Setup", "newClusterVersion: -9223372036854775808", None),
+    ("Command", "header { connectionID: 1 ackSequence: 2 messageType: NOOP_RESPONSE } status { code: SUCCESS }", "0a0618013002381d1a020801"),
+    ("Command", "header { connectionID: 1 ackSequence: 3 messageType: GET_RESPONSE } body { keyValue { key: 'k' dbVersion: 'v1' "
+     "tag: '\\x01\\x02\\x03\\x04' algorithm: CRC32C } } status { code: SUCCESS }", None),
+    ("Command", "header { connectionID: 1 ackSequence: 3 messageType: GET_RESPONSE } body { keyValue { key: 'k' } } status { code: SUCCESS }", None),
+    ("Command", "header { connectionID: 1 } status { code: CONNECTION_TERMINATED }", "0a0218011a020814"),
+]
+
+
+def written():
+    for message, text, paper in WRITTEN:
+        data = encoded(message, text).hex()
+        assert paper in (None, data), (text, data)
+        yield data + "\n"
+
+
+def made():
+    cases = [(kind, bytes.fromhex(text), line) for kind, text, line in RAW] + [case[1:] for case in messages()]
+    return {"fields_main/stdin": "".join(f"{KINDS.index(kind):02x}{data.hex()}\n" for kind, data, _ in cases),
+            "fields_main/stdout": "".join(line + "\n" for _, _, line in cases),
+            "writers_main/stdout": "".join(written())}
+
+
+FIELDS, ENUMS = proto()
+
+if __name__ == "__main__":
+    if sys.argv[1:2] == ["--hex"]:
+        print(next(data.hex() for name, _, data, _ in messages() if name == sys.argv[2]))
+        sys.exit()
+    bad = False
+    for name, text in made().items():
+        path = os.path.join(CRATES, name)
+        if sys.argv[1:] == ["--check"]:
+            same = os.path.exists(path) and open(path).read() == text
+            print(f"{name}: {'same' if same else 'NOT THE SAME'}")
+            bad |= not same
+        else:
+            open(path, "w").write(text)
+    sys.exit(bad)
