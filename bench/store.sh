@@ -1,0 +1,8 @@
+#!/bin/sh
+# Measures the proved store against plain C (clang -O3), in one run.
+set -eu
+cd "$(dirname "$0")/.."
+rt staticlib store_export >/dev/null
+mkdir -p target/bench
+clang -O3 -o target/bench/store bench/store_bench.c bench/store.c target/staticlib/libstore_export.a
+exec target/bench/store

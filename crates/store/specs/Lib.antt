@@ -1,0 +1,14 @@
+pub mod Store
+pub mod Entries
+pub mod StoreLaws
+pub mod EntriesLaws
+pub mod Walk
+pub mod Check
+pub mod EntryAt
+pub mod Places
+pub mod Move
+pub mod Change
+pub mod Kept
+pub mod Readings
+pub mod Range
+pub mod RangeLaws
