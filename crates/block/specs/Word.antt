@@ -76,15 +76,11 @@ module _ (a b : List ℕ) (ba : Bytes a) (bb : Bytes b) where
           let e : getD a i 0 * 256 ^ k ≡ getD b i 0 * 256 ^ k = ap (λ (x : ℕ). x * 256 ^ k) q in
           at-same a b i (omega arith) (omega arith) q ∙ ih (omega arith) ∙ ap (λ (n : ℕ). cmp (drop n a) (drop n b)) z)
 
--- eight bytes, as the code adds them up
-pub word-eight : (l : List ℕ) (i a b c d e f g h : ℕ) → a ≡ getD l i 0 → b ≡ getD l (i + 1) 0 → c ≡ getD l (i + 2) 0 → d ≡ getD l (i + 3) 0 → e ≡ getD l (i + 4) 0 → f ≡ getD l (i + 5) 0 → g ≡ getD l (i + 6) 0 → h ≡ getD l (i + 7) 0
-    → a * 72057594037927936 + b * 281474976710656 + c * 1099511627776 + d * 4294967296 + e * 16777216 + f * 65536 + g * 256 + h ≡ wordAt 8 l i
+-- four bytes, as the code adds them up
+pub word-four : (l : List ℕ) (i a b c d : ℕ) → a ≡ getD l i 0 → b ≡ getD l (i + 1) 0 → c ≡ getD l (i + 2) 0 → d ≡ getD l (i + 3) 0
+    → a * 16777216 + b * 65536 + c * 256 + d ≡ wordAt 4 l i
 unfolding wordAt
-word-eight l i a b c d e f g h p0 p1 p2 p3 p4 p5 p6 p7 =
+word-four l i a b c d p0 p1 p2 p3 =
     let q2 : getD l (i + 1 + 1) 0 ≡ getD l (i + 2) 0 = let z : i + 1 + 1 ≡ i + 2 = omega arith in ap (λ (m : ℕ). getD l m 0) z in
     let q3 : getD l (i + 1 + 1 + 1) 0 ≡ getD l (i + 3) 0 = let z : i + 1 + 1 + 1 ≡ i + 3 = omega arith in ap (λ (m : ℕ). getD l m 0) z in
-    let q4 : getD l (i + 1 + 1 + 1 + 1) 0 ≡ getD l (i + 4) 0 = let z : i + 1 + 1 + 1 + 1 ≡ i + 4 = omega arith in ap (λ (m : ℕ). getD l m 0) z in
-    let q5 : getD l (i + 1 + 1 + 1 + 1 + 1) 0 ≡ getD l (i + 5) 0 = let z : i + 1 + 1 + 1 + 1 + 1 ≡ i + 5 = omega arith in ap (λ (m : ℕ). getD l m 0) z in
-    let q6 : getD l (i + 1 + 1 + 1 + 1 + 1 + 1) 0 ≡ getD l (i + 6) 0 = let z : i + 1 + 1 + 1 + 1 + 1 + 1 ≡ i + 6 = omega arith in ap (λ (m : ℕ). getD l m 0) z in
-    let q7 : getD l (i + 1 + 1 + 1 + 1 + 1 + 1 + 1) 0 ≡ getD l (i + 7) 0 = let z : i + 1 + 1 + 1 + 1 + 1 + 1 + 1 ≡ i + 7 = omega arith in ap (λ (m : ℕ). getD l m 0) z in
     omega arith

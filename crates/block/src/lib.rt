@@ -16,19 +16,15 @@ pub enum Order {
     Greater,
 }
 
-// Eight bytes from i on as a number, the first byte the highest.
+// Four bytes from i on as a number, the first byte the highest.
 fn word(s: &[u8], i: usize) -> usize
-    requires { ⌜ i + 8 ≤ length (now s) ⌝ }
-    ensures { λ r. ⌜ r ≡ wordAt 8 (now (s .entry)) i ⌝ }
+    requires { ⌜ i + 4 ≤ length (now s) ⌝ }
+    ensures { λ r. ⌜ r ≡ wordAt 4 (now (s .entry)) i ⌝ }
 {
-    let a = wide(s[i]) * 72057594037927936;
-    let b = wide(s[i + 1]) * 281474976710656;
-    let c = wide(s[i + 2]) * 1099511627776;
-    let d = wide(s[i + 3]) * 4294967296;
-    let e = wide(s[i + 4]) * 16777216;
-    let f = wide(s[i + 5]) * 65536;
-    let g = wide(s[i + 6]) * 256;
-    a + b + c + d + e + f + g + wide(s[i + 7])
+    let a = wide(s[i]) * 16777216;
+    let b = wide(s[i + 1]) * 65536;
+    let c = wide(s[i + 2]) * 256;
+    a + b + c + wide(s[i + 3])
 }
 
 // How a from i on stands to b from i on, byte by byte.
@@ -58,12 +54,12 @@ fn compare_from(a: &[u8], b: &[u8], from: usize) -> Order
     }
 }
 
-// How the key a stands to the key b: eight bytes at a time, as big-endian numbers stand as their bytes do.
+// How the key a stands to the key b: four bytes at a time, as big-endian numbers stand as their bytes do.
 pub fn compare(a: &[u8], b: &[u8]) -> Order
     ensures { λ r. ⌜ r ≡ cmp (now (a .entry)) (now (b .entry)) ⌝ }
 {
     let mut i: usize = 0;
-    let mut e: usize = 8;
+    let mut e: usize = 4;
     while e <= a.len() {
         if b.len() < e {
             return compare_from(a, b, i);
@@ -76,8 +72,8 @@ pub fn compare(a: &[u8], b: &[u8]) -> Order
         if y < x {
             return Order::Greater;
         }
-        i += 8;
-        e += 8;
+        i += 4;
+        e += 4;
     }
     compare_from(a, b, i)
 }

@@ -10,7 +10,7 @@ use Rattle.block.proofs.compare.Statement.{statement}
 use Rattle.block.proofs.compare.Tie as tie
 
 abbrev Inv-loop : tie.InvT-loop
-Inv-loop a b i₀ e₀ i e = (i ≤ length a) × (i ≤ length b) × (e ≡ i + 8) × (cmp (drop i a) (drop i b) ≡ cmp a b)
+Inv-loop a b i₀ e₀ i e = (i ≤ length a) × (i ≤ length b) × (e ≡ i + 4) × (cmp (drop i a) (drop i b) ≡ cmp a b)
 
 abbrev μ-loop : tie.MeasureT-loop
 μ-loop a b i₀ e₀ i e = length a - i
@@ -36,10 +36,10 @@ Read = tie.After-word2 Inv-loop μ-loop
 abbrev At : Read → Loop
 At c = c .before .before .before .before
 
-ends-a : (c : Read) → At c .loop .i + 8 ≤ length (A (At c))
+ends-a : (c : Read) → At c .loop .i + 4 ≤ length (A (At c))
 ends-a c = let t = c .before .before .before .loop-test .taken in omega arith
 
-ends-b : (c : Read) → At c .loop .i + 8 ≤ length (B (At c))
+ends-b : (c : Read) → At c .loop .i + 4 ≤ length (B (At c))
 ends-b c = let t = c .before .before .if1 .left in omega arith
 
 loop-holds : tie.Need-loop-holds Inv-loop μ-loop
@@ -60,14 +60,14 @@ word-requires-2 c κs = let t = c .before .if1 .left in omega arith
 returns-2 : tie.Need-returns-2 Inv-loop μ-loop
 returns-2 c = let r = c .before in
     let l = At r in
-    let h : wordAt 8 (A l) (l .loop .i) < wordAt 8 (B l) (l .loop .i) = let x = r .before .word .ensures in let y = r .word2 .ensures in let q = c .if2 .taken in omega arith in
-    sym (word-less (A l) (B l) (bytes-a l) (bytes-b l) 8 (l .loop .i) (ends-a r) (ends-b r) h) ∙ l .loop .inv .3
+    let h : wordAt 4 (A l) (l .loop .i) < wordAt 4 (B l) (l .loop .i) = let x = r .before .word .ensures in let y = r .word2 .ensures in let q = c .if2 .taken in omega arith in
+    sym (word-less (A l) (B l) (bytes-a l) (bytes-b l) 4 (l .loop .i) (ends-a r) (ends-b r) h) ∙ l .loop .inv .3
 
 returns-3 : tie.Need-returns-3 Inv-loop μ-loop
 returns-3 c = let r = c .before .before in
     let l = At r in
-    let h : wordAt 8 (B l) (l .loop .i) < wordAt 8 (A l) (l .loop .i) = let x = r .before .word .ensures in let y = r .word2 .ensures in let q = c .if3 .taken in omega arith in
-    sym (word-greater (A l) (B l) (bytes-a l) (bytes-b l) 8 (l .loop .i) (ends-a r) (ends-b r) h) ∙ l .loop .inv .3
+    let h : wordAt 4 (B l) (l .loop .i) < wordAt 4 (A l) (l .loop .i) = let x = r .before .word .ensures in let y = r .word2 .ensures in let q = c .if3 .taken in omega arith in
+    sym (word-greater (A l) (B l) (bytes-a l) (bytes-b l) 4 (l .loop .i) (ends-a r) (ends-b r) h) ∙ l .loop .inv .3
 
 add-i : tie.Need-add-i Inv-loop μ-loop
 add-i c = omega arith
@@ -84,7 +84,7 @@ loop-again c = let r = c .before .before in
     let t = ends-a r in
     let u = ends-b r in
     let same = sym (r .before .word .ensures) ∙ le-antisymm (c .if3 .left) (c .before .if2 .left) ∙ r .word2 .ensures in
-    (omega arith, omega arith, omega arith, sym (word-same (A l) (B l) (bytes-a l) (bytes-b l) 8 (l .loop .i) (ends-a r) (ends-b r) same) ∙ l .loop .inv .3)
+    (omega arith, omega arith, omega arith, sym (word-same (A l) (B l) (bytes-a l) (bytes-b l) 4 (l .loop .i) (ends-a r) (ends-b r) same) ∙ l .loop .inv .3)
 
 compare-from-requires-2 : tie.Need-compare-from-requires-2 Inv-loop μ-loop
 compare-from-requires-2 c κs = (c .before .loop .inv .0, c .before .loop .inv .1)

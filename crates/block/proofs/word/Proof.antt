@@ -1,4 +1,4 @@
-use Rattle.block.specs.Word.{word-eight}
+use Rattle.block.specs.Word.{word-four}
 use borrow.Author.Needs.{needs}
 use Rattle.block.proofs.word.Statement.{statement}
 use Rattle.block.proofs.word.Tie as tie
@@ -36,6 +36,12 @@ wide-requires-3 c κs = search needs
 mul-c : tie.Need-mul-c
 mul-c c = search needs
 
+add-result : tie.Need-add-result
+add-result c = search needs
+
+add-result-2 : tie.Need-add-result-2
+add-result-2 c = search needs
+
 add-wide-3 : tie.Need-add-wide-3
 add-wide-3 c = search needs
 
@@ -45,80 +51,12 @@ shared-slice-read-wide-4 c = search needs
 wide-requires-4 : tie.Need-wide-requires-4
 wide-requires-4 c κs = search needs
 
-mul-d : tie.Need-mul-d
-mul-d c = search needs
-
-add-wide-4 : tie.Need-add-wide-4
-add-wide-4 c = search needs
-
-shared-slice-read-wide-5 : tie.Need-shared-slice-read-wide-5
-shared-slice-read-wide-5 c = search needs
-
-wide-requires-5 : tie.Need-wide-requires-5
-wide-requires-5 c κs = search needs
-
-mul-e : tie.Need-mul-e
-mul-e c = search needs
-
-add-wide-5 : tie.Need-add-wide-5
-add-wide-5 c = search needs
-
-shared-slice-read-wide-6 : tie.Need-shared-slice-read-wide-6
-shared-slice-read-wide-6 c = search needs
-
-wide-requires-6 : tie.Need-wide-requires-6
-wide-requires-6 c κs = search needs
-
-mul-f : tie.Need-mul-f
-mul-f c = search needs
-
-add-wide-6 : tie.Need-add-wide-6
-add-wide-6 c = search needs
-
-shared-slice-read-wide-7 : tie.Need-shared-slice-read-wide-7
-shared-slice-read-wide-7 c = search needs
-
-wide-requires-7 : tie.Need-wide-requires-7
-wide-requires-7 c κs = search needs
-
-mul-g : tie.Need-mul-g
-mul-g c = search needs
-
-add-result : tie.Need-add-result
-add-result c = search needs
-
-add-result-2 : tie.Need-add-result-2
-add-result-2 c = search needs
-
 add-result-3 : tie.Need-add-result-3
 add-result-3 c = search needs
 
-add-result-4 : tie.Need-add-result-4
-add-result-4 c = search needs
-
-add-result-5 : tie.Need-add-result-5
-add-result-5 c = search needs
-
-add-result-6 : tie.Need-add-result-6
-add-result-6 c = search needs
-
-add-wide-7 : tie.Need-add-wide-7
-add-wide-7 c = search needs
-
-shared-slice-read-wide-8 : tie.Need-shared-slice-read-wide-8
-shared-slice-read-wide-8 c = search needs
-
-wide-requires-8 : tie.Need-wide-requires-8
-wide-requires-8 c κs = search needs
-
-add-result-7 : tie.Need-add-result-7
-add-result-7 c = search needs
-
 returns : tie.Need-returns
-returns c = let s = c .before .before .before .before .before .before .before .before .before .before .before .before .before .before .before .before .before .args in
-    word-eight (s .s .now) (s .i) _ _ _ _ _ _ _ _
-    (c .before .before .before .before .before .before .before .before .before .before .before .before .before .before .wide .ensures .0) (c .before .before .before .before .before .before .before .before .before .before .before .before .wide2 .ensures .0) (c .before .before .before .before .before .before .before .before .before .before .wide3 .ensures .0) (c .before .before .before .before .before .before .before .before .wide4 .ensures .0)
-    (c .before .before .before .before .before .before .wide5 .ensures .0) (c .before .before .before .before .wide6 .ensures .0) (c .before .before .wide7 .ensures .0) (c .wide8 .ensures .0)
+returns c = let s = c .before .before .before .before .before .before .before .before .before .args in
+    word-four (s .s .now) (s .i) _ _ _ _ (c .before .before .before .before .before .before .wide .ensures .0) (c .before .before .before .before .wide2 .ensures .0) (c .before .before .wide3 .ensures .0) (c .wide4 .ensures .0)
 
 pub word-spec : {M : Type 1} → statement M
 word-spec =
@@ -135,30 +73,10 @@ word-spec =
     shared-slice-read-wide-3
     wide-requires-3
     mul-c
+    add-result
+    add-result-2
     add-wide-3
     shared-slice-read-wide-4
     wide-requires-4
-    mul-d
-    add-wide-4
-    shared-slice-read-wide-5
-    wide-requires-5
-    mul-e
-    add-wide-5
-    shared-slice-read-wide-6
-    wide-requires-6
-    mul-f
-    add-wide-6
-    shared-slice-read-wide-7
-    wide-requires-7
-    mul-g
-    add-result
-    add-result-2
     add-result-3
-    add-result-4
-    add-result-5
-    add-result-6
-    add-wide-7
-    shared-slice-read-wide-8
-    wide-requires-8
-    add-result-7
     returns)
