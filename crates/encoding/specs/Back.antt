@@ -14,15 +14,15 @@ use Rattle.wire.specs.Wire.{Value, vint, vlen, Field, field, valueOf, readField
 use Rattle.wire.specs.WireLaws.{fields-put}
 use Rattle.wire.specs.Varint.{varintBytes}
 use Rattle.wire.specs.VarintLaws.{varint-whole, varint-back}
-use Rattle.fields.specs.Rules.{strictOf, ruleOf}
-use Rattle.fields.specs.Tree.{mapO, thenO, isSome, among, Content, cInt, cRaw, cMsg, Item, item, decode, find, add, byRule, step, items, itemsO, level}
-use Rattle.fields.specs.Tree.{Tree, sub, openOne, openAll, listedIn, listed}
+use Rattle.tree.specs.Rules.{strictOf, ruleOf}
+use Rattle.tree.specs.Tree.{mapO, thenO, isSome, among, Content, cInt, cRaw, cMsg, Item, item, decode, find, add, byRule, step, items, itemsO, level}
+use Rattle.tree.specs.Tree.{Tree, sub, openOne, openAll, listedIn, listed}
 use Rattle.encoding.specs.Basics.{never}
 use Rattle.encoding.specs.Encode.{tag, intField, lenField, encode, FieldNumber, says, FitsAfter, ends, ints, raws, subs, Fits}
 use Rattle.encoding.specs.Depth.{depth, says-message, depth-most}
-use Rattle.fields.specs.declared.table.Kind.{Kind}
-use Rattle.fields.specs.declared.table.Rule.{Rule}
-use Rattle.fields.specs.declared.table.Rule.the-variants.{Unlisted, Refused, Single, Repeated}
+use Rattle.tree.specs.declared.Kind.{Kind}
+use Rattle.tree.specs.declared.Rule.{Rule}
+use Rattle.tree.specs.declared.Rule.the-variants.{Unlisted, Refused, Single, Repeated}
 
 -- one field ---------------------------------------------------------------------------
 

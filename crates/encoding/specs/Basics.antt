@@ -4,7 +4,7 @@ use native.Mathlib.Omega.{arith}
 use mathlib.Core.Path.{_≡_}
 use mathlib.Core.Option.{some}
 use mathlib.Core.Bool.{Bool, true}
-use Rattle.fields.specs.Tree.{guard}
+use Rattle.tree.specs.Tree.{guard}
 
 -- from equal values of different constructors anything follows, by `never (cc)`
 pub never : {B : Type 0} → _≡_ {A = ℕ} 0 1 → B

@@ -16,17 +16,17 @@ use Rattle.wire.specs.Wire.{varint, Value, vint, v64, vlen, v32, Field, field, 
 use Rattle.wire.specs.WireLaws.{varint-below}
 use Rattle.wire.specs.Varint.{varintUp, varintBytes}
 use Rattle.wire.specs.VarintLaws.{varint-shortest}
-use Rattle.fields.specs.Rules.{namesOf, strictOf, ruleOf}
-use Rattle.fields.specs.Tree.{mapO, thenO, guard, isSome, among, isInt32, Content, cInt, cRaw, cMsg, Item, item, decode, find, add, byRule, step, items, itemsO, level}
-use Rattle.fields.specs.Tree.{Tree, done, int, raw, sub, openOne, openAll, listedIn, listed}
+use Rattle.tree.specs.Rules.{namesOf, strictOf, ruleOf}
+use Rattle.tree.specs.Tree.{mapO, thenO, guard, isSome, among, isInt32, Content, cInt, cRaw, cMsg, Item, item, decode, find, add, byRule, step, items, itemsO, level}
+use Rattle.tree.specs.Tree.{Tree, done, int, raw, sub, openOne, openAll, listedIn, listed}
 use Rattle.encoding.specs.Basics.{never, guarded}
 use Rattle.encoding.specs.Encode.{tag, intField, head, lenField, encode, FieldNumber, says, FitsAfter, ends, ints, raws, subs, Fits}
 use Rattle.encoding.specs.Back.{Known, known-none, known-snoc, read-back}
-use Rattle.fields.specs.declared.table.Kind.{Kind}
-use Rattle.fields.specs.declared.table.Form.{Form}
-use Rattle.fields.specs.declared.table.Form.the-variants.{Int64, Int32, Named, Flag, Bytes, Opaque, Nested}
-use Rattle.fields.specs.declared.table.Rule.{Rule}
-use Rattle.fields.specs.declared.table.Rule.the-variants.{Unlisted, Refused, Single, Repeated}
+use Rattle.tree.specs.declared.Kind.{Kind}
+use Rattle.tree.specs.declared.Form.{Form}
+use Rattle.tree.specs.declared.Form.the-variants.{Int64, Int32, Named, Flag, Bytes, Opaque, Nested}
+use Rattle.tree.specs.declared.Rule.{Rule}
+use Rattle.tree.specs.declared.Rule.the-variants.{Unlisted, Refused, Single, Repeated}
 
 none-some : {A B : Type 0} {a : A} → _≡_ {A = Option A} none (some a) → B
 none-some e = never (cc)

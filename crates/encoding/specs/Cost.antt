@@ -7,9 +7,9 @@ use mathlib.Core.Option.{Option, none, some}
 use lib.ListN.{length, length-append}
 use Rattle.wire.specs.Varint.{varintBytes}
 use Rattle.wire.specs.VarintLaws.{varint-length, varint-ten}
-use Rattle.fields.specs.Tree.{Tree, done, int, raw, sub}
+use Rattle.tree.specs.Tree.{Tree, done, int, raw, sub}
 use Rattle.encoding.specs.Encode.{tag, intField, head, lenField, encode, intO, intIf, rawIf, each, FitsAfter, ends, ints, raws, subs}
-use Rattle.fields.specs.declared.table.Kind.{Kind}
+use Rattle.tree.specs.declared.Kind.{Kind}
 
 abbrev pub cost : Tree → ℕ
 cost done = 0

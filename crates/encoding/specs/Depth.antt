@@ -9,16 +9,16 @@ use lib.Dec.{ltb, eqb}
 use borrow.Author.Tests.{ltb-true}
 use Rattle.wire.specs.Reader.{choose}
 use Rattle.wire.specs.Wire.{vlen}
-use Rattle.fields.specs.Rules.{Table, end, row, tableOf, look, ruleOf}
-use Rattle.fields.specs.Tree.{cMsg, ofBytes}
+use Rattle.tree.specs.Rules.{Table, end, row, tableOf, look, ruleOf}
+use Rattle.tree.specs.Tree.{cMsg, ofBytes}
 use Rattle.encoding.specs.Basics.{never}
 use Rattle.encoding.specs.Encode.{says}
-use Rattle.fields.specs.declared.table.Kind.{Kind}
-use Rattle.fields.specs.declared.table.Kind.the-variants.{Message, HmacAuth, Command, Header, Body, KeyValue, Range, Setup, Security, Acl, Scope, ReplyCommand, ReplyBody, ReplyRange, Status}
-use Rattle.fields.specs.declared.table.Form.{Form}
-use Rattle.fields.specs.declared.table.Form.the-variants.{Int64, Int32, Named, Flag, Bytes, Opaque, Nested}
-use Rattle.fields.specs.declared.table.Rule.{Rule}
-use Rattle.fields.specs.declared.table.Rule.the-variants.{Unlisted, Refused, Single, Repeated}
+use Rattle.tree.specs.declared.Kind.{Kind}
+use Rattle.tree.specs.declared.Kind.the-variants.{Message, HmacAuth, Command, Header, Body, KeyValue, Range, Setup, Security, Acl, Scope, ReplyCommand, ReplyBody, ReplyRange, Status}
+use Rattle.tree.specs.declared.Form.{Form}
+use Rattle.tree.specs.declared.Form.the-variants.{Int64, Int32, Named, Flag, Bytes, Opaque, Nested}
+use Rattle.tree.specs.declared.Rule.{Rule}
+use Rattle.tree.specs.declared.Rule.the-variants.{Unlisted, Refused, Single, Repeated}
 
 abbrev pub depth : Kind → ℕ
 depth Message = 1

@@ -8,11 +8,11 @@ use lib.ListN.{length}
 use Rattle.wire.specs.Reader.{choose}
 use Rattle.wire.specs.Wire.{Value, vint, vlen}
 use Rattle.wire.specs.Varint.{varintBytes}
-use Rattle.fields.specs.Rules.{ruleOf}
-use Rattle.fields.specs.Tree.{among, Content, cInt, cRaw, cMsg, decode, Tree, done, int, raw, sub}
-use Rattle.fields.specs.declared.table.Kind.{Kind}
-use Rattle.fields.specs.declared.table.Rule.{Rule}
-use Rattle.fields.specs.declared.table.Rule.the-variants.{Unlisted, Refused, Single, Repeated}
+use Rattle.tree.specs.Rules.{ruleOf}
+use Rattle.tree.specs.Tree.{among, Content, cInt, cRaw, cMsg, decode, Tree, done, int, raw, sub}
+use Rattle.tree.specs.declared.Kind.{Kind}
+use Rattle.tree.specs.declared.Rule.{Rule}
+use Rattle.tree.specs.declared.Rule.the-variants.{Unlisted, Refused, Single, Repeated}
 
 -- document 01: "field encoding is the public Protocol Buffers encoding"; "Replies": "shortest varints" ------------
 

@@ -3,7 +3,7 @@ use Prim.Native.Nat.{_-_, _^_}
 use mathlib.Core.Path.{_≡_, refl}
 use mathlib.Core.List.{[], _∷_}
 use Rattle.wire.specs.Varint.{varintUp, varintBytes}
-use Rattle.fields.specs.Tree.{done, int, raw, sub}
+use Rattle.tree.specs.Tree.{done, int, raw, sub}
 use Rattle.encoding.specs.Encode.{encode}
 
 -- "A Simple Message": field 1 is 150

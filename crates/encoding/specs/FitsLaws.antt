@@ -10,14 +10,14 @@ use lib.Dec.{ltb, leb, eqb}
 use borrow.Author.Tests.{ltb-true, leb-true}
 use Rattle.wire.specs.Reader.{choose}
 use Rattle.wire.specs.Wire.{Value, vint, vlen}
-use Rattle.fields.specs.Rules.{ruleOf}
-use Rattle.fields.specs.Tree.{among, Content, cInt, cRaw, cMsg, Tree, int, raw, sub}
+use Rattle.tree.specs.Rules.{ruleOf}
+use Rattle.tree.specs.Tree.{among, Content, cInt, cRaw, cMsg, Tree, int, raw, sub}
 use Rattle.encoding.specs.Basics.{never}
 use Rattle.encoding.specs.Encode.{encode, intO, intIf, rawIf, each, FieldNumber, says, FitsAfter, ends, ints, raws, subs}
 use Rattle.encoding.specs.Cost.{cost, AtMost, encode-cost}
-use Rattle.fields.specs.declared.table.Kind.{Kind}
-use Rattle.fields.specs.declared.table.Rule.{Rule}
-use Rattle.fields.specs.declared.table.Rule.the-variants.{Unlisted, Refused, Single, Repeated}
+use Rattle.tree.specs.declared.Kind.{Kind}
+use Rattle.tree.specs.declared.Rule.{Rule}
+use Rattle.tree.specs.declared.Rule.the-variants.{Unlisted, Refused, Single, Repeated}
 
 -- a field number, by a computed test
 pub number : {n : ℕ} → choose (leb 1 n) (ltb n (2 ^ 29)) false ≡ true → FieldNumber n

@@ -7,10 +7,10 @@ use lib.ListN.{length}
 use lib.Dec.{ltb, leb, eqb}
 use Rattle.wire.specs.Reader.{choose}
 use Rattle.wire.specs.Wire.{vint, vlen}
-use Rattle.fields.specs.Rules.{ruleOf}
-use Rattle.fields.specs.Tree.{among, Content, cInt, cRaw, cMsg, Tree, done, int, raw, sub}
+use Rattle.tree.specs.Rules.{ruleOf}
+use Rattle.tree.specs.Tree.{among, Content, cInt, cRaw, cMsg, Tree, done, int, raw, sub}
 use Rattle.encoding.specs.Encode.{encode, says}
-use Rattle.fields.specs.declared.table.Kind.{Kind}
+use Rattle.tree.specs.declared.Kind.{Kind}
 
 abbrev pub both : Bool → Bool → Bool
 both s t = choose s t false

@@ -8,13 +8,13 @@ use lib.ListN.{length}
 use lib.Dec.{ltb, leb, eqb}
 use borrow.Author.Tests.{ltb-true, leb-true, eqb-true, lt-ltb, le-leb, eq-eqb}
 use Rattle.wire.specs.Wire.{vint, vlen}
-use Rattle.fields.specs.Rules.{ruleOf}
-use Rattle.fields.specs.Tree.{among, Content, cInt, cRaw, cMsg, Tree, done, int, raw, sub}
+use Rattle.tree.specs.Rules.{ruleOf}
+use Rattle.tree.specs.Tree.{among, Content, cInt, cRaw, cMsg, Tree, done, int, raw, sub}
 use Rattle.encoding.specs.Basics.{never}
 use Rattle.encoding.specs.Encode.{encode, FieldNumber, says, FitsAfter, ends, ints, raws, subs}
 use Rattle.encoding.specs.Depth.{says-message}
 use Rattle.encoding.specs.FitsTest.{both, isFieldNumber, equal, saysInt, saysRaw, saysMessage, isFit}
-use Rattle.fields.specs.declared.table.Kind.{Kind}
+use Rattle.tree.specs.declared.Kind.{Kind}
 
 both-true : (s t : Bool) → both s t ≡ true → (s ≡ true) × (t ≡ true)
 both-true true t h = (refl, h)

@@ -6,7 +6,7 @@ use mathlib.Core.Option.{Option, none, some}
 use mathlib.Core.Bool.{false}
 use lib.Dec.{eqb}
 use borrow.Author.Tests.{eq-eqb}
-use Rattle.fields.specs.Tree.{Tree, int, raw, later, intAt, rawAt, subAt, rawsAt}
+use Rattle.tree.specs.Tree.{Tree, int, raw, later, intAt, rawAt, subAt, rawsAt}
 use Rattle.encoding.specs.Encode.{intO, intIf, rawIf, each}
 
 -- what is absent has this value: document 01, "Absent bytes are empty, flags false, clusterVersion and offset 0"

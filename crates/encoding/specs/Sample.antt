@@ -7,8 +7,8 @@ use mathlib.Core.Option.{Option, some}
 use mathlib.Core.Bool.{true}
 use lib.ListN.{length}
 use Rattle.wire.specs.Varint.{varintUp}
-use Rattle.fields.specs.Rules.{namesOf}
-use Rattle.fields.specs.Tree.{isInt32, among, Tree, done, int, sub, listed, intAt, rawsAt}
+use Rattle.tree.specs.Rules.{namesOf}
+use Rattle.tree.specs.Tree.{isInt32, among, Tree, done, int, sub, listed, intAt, rawsAt}
 use Rattle.encoding.specs.Encode.{encode, intO, each, Fits, ends}
 use Rattle.encoding.specs.Basics.{guarded}
 use Rattle.encoding.specs.Cost.{cost, AtMost, encode-cost, intO-cost, each-cost, total-most}
@@ -17,8 +17,8 @@ use Rattle.encoding.specs.LookUps.{int-past, intO-here, each-here}
 use Rattle.encoding.specs.FitsTest.{isFit}
 use Rattle.encoding.specs.FitsTestLaws.{test-fits}
 use Rattle.encoding.specs.Back.{read-back}
-use Rattle.fields.specs.declared.table.Kind.the-variants.{Header, ReplyCommand, ReplyBody, ReplyRange, Status}
-use Rattle.fields.specs.declared.table.Names.the-variants.{StatusCode}
+use Rattle.tree.specs.declared.Kind.the-variants.{Header, ReplyCommand, ReplyBody, ReplyRange, Status}
+use Rattle.tree.specs.declared.Names.the-variants.{StatusCode}
 
 -- header 3, 6 and 7
 abbrev header : ℕ → Option ℕ → ℕ → Tree

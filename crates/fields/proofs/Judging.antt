@@ -13,14 +13,14 @@ use Rattle.wire.specs.Wire.{field}
 use Rattle.wire.specs.FieldAnswer.{endsFound, numberIn, valueIn}
 use Rattle.wire.specs.declared.field.Found.{Found}
 use Rattle.wire.specs.declared.field.Found.the-variants.{Len}
-use Rattle.fields.specs.Rules.{Table, end, row, look, tableOf, ruleOf, strictOf}
-use Rattle.fields.specs.Tree.{isSome, Content, Item, item, decode, find, add, byRule, step}
+use Rattle.tree.specs.Rules.{Table, end, row, look, tableOf, ruleOf, strictOf}
+use Rattle.tree.specs.Tree.{isSome, Content, Item, item, decode, find, add, byRule, step}
 use Rattle.fields.specs.Judged.{meansTaken, insideTaken, bit, isSingle, Marks, unlistedOf, fieldIn, Takes, Judges}
-use Rattle.fields.specs.declared.table.Kind.{Kind}
-use Rattle.fields.specs.declared.table.Kind.the-variants.{Message, HmacAuth, Command, Header, Body, KeyValue, Range, Setup, Security, Acl, Scope, ReplyCommand, ReplyBody, ReplyRange, Status}
-use Rattle.fields.specs.declared.table.Form.{Form}
-use Rattle.fields.specs.declared.table.Rule.{Rule}
-use Rattle.fields.specs.declared.table.Rule.the-variants.{Unlisted, Refused, Single, Repeated}
+use Rattle.tree.specs.declared.Kind.{Kind}
+use Rattle.tree.specs.declared.Kind.the-variants.{Message, HmacAuth, Command, Header, Body, KeyValue, Range, Setup, Security, Acl, Scope, ReplyCommand, ReplyBody, ReplyRange, Status}
+use Rattle.tree.specs.declared.Form.{Form}
+use Rattle.tree.specs.declared.Rule.{Rule}
+use Rattle.tree.specs.declared.Rule.the-variants.{Unlisted, Refused, Single, Repeated}
 use Rattle.fields.specs.declared.judge.Taken.{Taken}
 use Rattle.fields.specs.declared.judge.Judged.{Judged}
 use Rattle.fields.specs.declared.judge.Judged.the-variants.{Refuse, Skip}

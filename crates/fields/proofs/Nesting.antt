@@ -11,15 +11,15 @@ use Rattle.wire.specs.Reader.{choose}
 use Rattle.wire.specs.Wire.{Value, Field, field, readField, fieldsOf}
 use Rattle.wire.specs.FieldAnswer.{meansFound, endsFound, nextIn}
 use Rattle.wire.specs.declared.field.Found.{Found}
-use Rattle.fields.specs.Rules.{ruleOf, strictOf}
-use Rattle.fields.specs.Tree.{mapO, thenO, isSome, Content, cInt, cRaw, cMsg, Item, item, decode, find, add, byRule, step, items, itemsO, level}
-use Rattle.fields.specs.Tree.{Tree, sub, openOne, openAll, listed}
-use Rattle.fields.specs.Depth.{listed-opens}
+use Rattle.tree.specs.Rules.{ruleOf, strictOf}
+use Rattle.tree.specs.Tree.{mapO, thenO, isSome, Content, cInt, cRaw, cMsg, Item, item, decode, find, add, byRule, step, items, itemsO, level}
+use Rattle.tree.specs.Tree.{Tree, sub, openOne, openAll, listed}
+use Rattle.tree.specs.Depth.{listed-opens}
 use Rattle.fields.specs.Judged.{meansTaken, insideTaken, Marks, Takes, Judges}
 use Rattle.fields.specs.Nested.{opensTaken}
-use Rattle.fields.specs.declared.table.Kind.{Kind}
-use Rattle.fields.specs.declared.table.Rule.{Rule}
-use Rattle.fields.specs.declared.table.Rule.the-variants.{Unlisted, Refused, Single, Repeated}
+use Rattle.tree.specs.declared.Kind.{Kind}
+use Rattle.tree.specs.declared.Rule.{Rule}
+use Rattle.tree.specs.declared.Rule.the-variants.{Unlisted, Refused, Single, Repeated}
 use Rattle.fields.specs.declared.judge.Taken.{Taken}
 use Rattle.fields.specs.declared.judge.Taken.the-variants.{Number, Slice, Inside, Wrong}
 use Rattle.fields.specs.declared.judge.Judged.{Judged}

@@ -13,11 +13,11 @@ use Rattle.wire.specs.Reader.{choose}
 use Rattle.wire.specs.Wire.{readField}
 use Rattle.wire.specs.FieldAnswer.{meansFound, endsFound, nextIn}
 use Rattle.wire.specs.declared.field.Found.{Found}
-use Rattle.fields.specs.Rules.{ruleOf}
-use Rattle.fields.specs.Tree.{Content, cInt, cRaw, cMsg, Item, item, find, add, level}
+use Rattle.tree.specs.Rules.{ruleOf}
+use Rattle.tree.specs.Tree.{Content, cInt, cRaw, cMsg, Item, item, find, add, level}
 use Rattle.fields.specs.Judged.{meansTaken, insideTaken, isSingle, Marks, Takes, Judges}
 use Rattle.fields.specs.Slots.{Sized, placeOf, Shows, Holds, Tells}
-use Rattle.fields.specs.declared.table.Kind.{Kind}
+use Rattle.tree.specs.declared.Kind.{Kind}
 use Rattle.fields.specs.declared.judge.Taken.{Taken}
 use Rattle.fields.specs.declared.judge.Taken.the-variants.{Number, Slice, Inside, Wrong}
 use Rattle.fields.specs.declared.judge.Judged.{Judged}

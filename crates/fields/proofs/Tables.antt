@@ -4,11 +4,11 @@ use mathlib.Core.Path.{_≡_, refl, sym, ap₂}
 use mathlib.Core.List.{List, [], _∷_}
 use mathlib.Core.Bool.{false}
 use borrow.Author.Tests.{ne-eqb}
-use Rattle.fields.specs.Rules.{namesOf, Table, end, row, look, tableOf, ruleOf}
-use Rattle.fields.specs.Tree.{among}
-use Rattle.fields.specs.declared.table.Kind.{Kind}
-use Rattle.fields.specs.declared.table.Names.{Names}
-use Rattle.fields.specs.declared.table.Rule.the-variants.{Unlisted}
+use Rattle.tree.specs.Rules.{namesOf, Table, end, row, look, tableOf, ruleOf}
+use Rattle.tree.specs.Tree.{among}
+use Rattle.tree.specs.declared.Kind.{Kind}
+use Rattle.tree.specs.declared.Names.{Names}
+use Rattle.tree.specs.declared.Rule.the-variants.{Unlisted}
 
 -- an arm with a number: the rule is the row's
 pub in-arm : {k k' : Kind} {n m : ℕ} → k ≡ k' → n ≡ m → ruleOf k' m ≡ ruleOf k n

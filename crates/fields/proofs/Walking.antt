@@ -10,9 +10,9 @@ use Rattle.wire.specs.WireLaws.{fields-front}
 use Rattle.wire.specs.FieldAnswer.{meansFound, endsFound, nextIn}
 use Rattle.wire.specs.declared.field.Found.{Found}
 use Rattle.wire.proofs.FieldPlaces.{fields-fail-at, fields-end, found-got, found-none, found-in}
-use Rattle.fields.specs.Tree.{Item, step, items, itemsO, level, thenO}
+use Rattle.tree.specs.Tree.{Item, step, items, itemsO, level, thenO}
 use Rattle.fields.specs.Judged.{fieldIn}
-use Rattle.fields.specs.declared.table.Kind.{Kind}
+use Rattle.tree.specs.declared.Kind.{Kind}
 
 items-front : (k : Kind) (f : Field) (o : Option (List Field)) (acc : List Item) → itemsO k (consO f o) acc ≡ thenO (step k f acc) (λ a. itemsO k o a)
 unfolding items

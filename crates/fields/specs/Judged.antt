@@ -10,11 +10,11 @@ use Rattle.wire.specs.Reader.{choose}
 use Rattle.wire.specs.Wire.{Field, field}
 use Rattle.wire.specs.FieldAnswer.{numberIn, valueIn}
 use Rattle.wire.specs.declared.field.Found.{Found}
-use Rattle.fields.specs.Rules.{strictOf, ruleOf}
-use Rattle.fields.specs.Tree.{isSome, Content, cInt, cRaw, cMsg, Item, item, find, add, step}
-use Rattle.fields.specs.declared.table.Kind.{Kind}
-use Rattle.fields.specs.declared.table.Rule.{Rule}
-use Rattle.fields.specs.declared.table.Rule.the-variants.{Unlisted, Refused, Single, Repeated}
+use Rattle.tree.specs.Rules.{strictOf, ruleOf}
+use Rattle.tree.specs.Tree.{isSome, Content, cInt, cRaw, cMsg, Item, item, find, add, step}
+use Rattle.tree.specs.declared.Kind.{Kind}
+use Rattle.tree.specs.declared.Rule.{Rule}
+use Rattle.tree.specs.declared.Rule.the-variants.{Unlisted, Refused, Single, Repeated}
 use Rattle.fields.specs.declared.judge.Taken.{Taken}
 use Rattle.fields.specs.declared.judge.Taken.the-variants.{Number, Slice, Inside, Wrong}
 use Rattle.fields.specs.declared.judge.Judged.{Judged}

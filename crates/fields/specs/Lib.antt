@@ -1,14 +1,3 @@
-pub mod Rules
-pub mod Tree
-pub mod Depth
 pub mod Judged
 pub mod Nested
 pub mod Slots
-pub mod PutIn
-pub mod LevelLaws
-pub mod PutInLaws
-pub mod StrictLaws
-pub mod EqualButLaws
-pub mod FrontLaws
-pub mod Boundaries
-pub mod PutInExamples

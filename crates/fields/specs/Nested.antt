@@ -3,7 +3,7 @@ use Prim.Native.Nat.{ℕ}
 use mathlib.Core.List.{List}
 use mathlib.Core.Bool.{Bool, true, false}
 use lib.ListN.{take, drop}
-use Rattle.fields.specs.Tree.{isSome, listed}
+use Rattle.tree.specs.Tree.{isSome, listed}
 use Rattle.fields.specs.declared.judge.Taken.{Taken}
 use Rattle.fields.specs.declared.judge.Taken.the-variants.{Number, Slice, Inside, Wrong}
 

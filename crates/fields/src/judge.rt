@@ -4,14 +4,14 @@ ghost use mathlib.Core.List.{List};
 ghost use Prim.Native.Nat.{ℕ, _+_, _^_, _≤_, _<_};
 ghost use lib.ListN.{length, take, drop};
 ghost use Rattle.wire.specs.FieldAnswer.{endsFound, valueIn};
-ghost use Rattle.fields.specs.Tree.{Item, ofInt, ofBytes, decode};
+ghost use Rattle.tree.specs.Tree.{Item, ofInt, ofBytes, decode};
 ghost use Rattle.fields.specs.Judged.{meansTaken, insideTaken, bit, unlistedOf, Marks, Judges};
-use crate::table::Form;
-use crate::table::Kind;
-use crate::table::Rule;
 use crate::table::named;
 use crate::table::rule_of;
 use crate::table::strict;
+use tree::Form;
+use tree::Kind;
+use tree::Rule;
 use wire::field::Found;
 use wire::field::number_of;
 

@@ -1,12 +1,12 @@
 // Messages inside messages.
 ghost use mathlib.Core.Path.{_≡_};
-ghost use Rattle.fields.specs.Tree.{isSome, listed};
+ghost use Rattle.tree.specs.Tree.{isSome, listed};
 ghost use Rattle.fields.specs.Judged.{insideTaken};
 ghost use Rattle.fields.specs.Nested.{opensTaken};
 use crate::judge::Judged;
 use crate::judge::Taken;
 use crate::judge::judge;
-use crate::table::Kind;
+use tree::Kind;
 use wire::field::next_of;
 use wire::field::read_field;
 

@@ -1,12 +1,12 @@
 // What one pass over a message finds: for each singular number, a number or a part of the message.
 ghost use mathlib.Core.Path.{_≡_};
 ghost use mathlib.Core.Bool.{false};
-ghost use Rattle.fields.specs.Tree.{level};
+ghost use Rattle.tree.specs.Tree.{level};
 ghost use Rattle.fields.specs.Slots.{placeOf, Tells};
 use crate::judge::Judged;
 use crate::judge::Taken;
 use crate::judge::judge;
-use crate::table::Kind;
+use tree::Kind;
 use wire::field::next_of;
 use wire::field::read_field;
 

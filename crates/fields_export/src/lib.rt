@@ -2,12 +2,12 @@
 ghost use mathlib.Core.Path.{_≡_};
 ghost use Prim.Native.Nat.{_<_};
 ghost use Rattle.wire.specs.Reader.{choose};
-ghost use Rattle.fields.specs.Tree.{isSome, listed};
+ghost use Rattle.tree.specs.Tree.{isSome, listed};
 ghost use Rattle.fields.specs.Slots.{Sized};
 use fields::nested::reads;
 use fields::slots::Slots;
 use fields::slots::collect;
-use fields::table::Kind;
+use tree::Kind;
 
 fn answer(decodes: bool) -> u32
     ensures { λ r. ⌜ r ≡ choose decodes 0 1 ⌝ }

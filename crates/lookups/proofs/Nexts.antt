@@ -11,7 +11,7 @@ use Rattle.wire.specs.Wire.{vint, vlen, fieldsOf}
 use Rattle.wire.specs.declared.field.Found.{Found}
 use Rattle.wire.specs.declared.field.Found.the-variants.{Varint, I64, Len, I32, NoField}
 use Rattle.wire.proofs.FieldPlaces.{fields-end}
-use Rattle.fields.specs.Tree.{isSome}
+use Rattle.tree.specs.Tree.{isSome}
 use Rattle.lookups.specs.Views.{bytesAt, noPart, Inside}
 use Rattle.lookups.specs.Values.{valuesIn, partsOf, numbersOf, partsIn, numbersIn, WellFramed, NextIs, spanOf, wordOf, NextPartIs, NextNumIs}
 use Rattle.lookups.specs.declared.parts.Part.{Part}

@@ -14,7 +14,7 @@ use Rattle.wire.specs.FieldAnswer.{meansFound, endsFound, numberIn, valueIn, ne
 use Rattle.wire.specs.declared.field.Found.{Found}
 use Rattle.wire.specs.declared.field.Found.the-variants.{Varint, I64, Len, I32, NoField}
 use Rattle.wire.proofs.FieldPlaces.{fields-fail-at, fields-end, found-got, found-none, found-in, ends-later}
-use Rattle.fields.specs.Tree.{isSome, consIf}
+use Rattle.tree.specs.Tree.{isSome, consIf}
 use Rattle.lookups.specs.Values.{valuesOf, orNil, valuesIn, WellFramed, isField, NextIs}
 
 pub record Seeking (s : List ℕ) (n at : ℕ) : Type 0 where

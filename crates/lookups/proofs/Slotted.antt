@@ -9,15 +9,15 @@ use mathlib.Core.Bool.{Bool, true, false}
 use lib.ListN.{length, take, drop, getD, length-take, length-drop}
 use lib.Seq.{drop-drop, take-length}
 use Rattle.wire.specs.Wire.{Value, vint, v64, vlen, v32, fieldsOf, fieldsIn}
-use Rattle.fields.specs.Rules.{namesOf, ruleOf}
-use Rattle.fields.specs.Tree.{mapO, guard, isSome, among, Content, cInt, cRaw, cMsg, Item, isInt32, ofInt, decode, find, items, level, Tree, done, openAll, listedIn, listed, intAt, rawAt, subAt}
+use Rattle.tree.specs.Rules.{namesOf, ruleOf}
+use Rattle.tree.specs.Tree.{mapO, guard, isSome, among, Content, cInt, cRaw, cMsg, Item, isInt32, ofInt, decode, find, items, level, Tree, done, openAll, listedIn, listed, intAt, rawAt, subAt}
 use Rattle.fields.specs.Judged.{bit, isSingle}
 use Rattle.fields.specs.Slots.{Sized, Holds, Tells, Shows}
-use Rattle.fields.specs.declared.table.Kind.{Kind}
-use Rattle.fields.specs.declared.table.Form.{Form}
-use Rattle.fields.specs.declared.table.Form.the-variants.{Int64, Int32, Named, Flag, Bytes, Opaque, Nested}
-use Rattle.fields.specs.declared.table.Rule.{Rule}
-use Rattle.fields.specs.declared.table.Rule.the-variants.{Unlisted, Refused, Single, Repeated}
+use Rattle.tree.specs.declared.Kind.{Kind}
+use Rattle.tree.specs.declared.Form.{Form}
+use Rattle.tree.specs.declared.Form.the-variants.{Int64, Int32, Named, Flag, Bytes, Opaque, Nested}
+use Rattle.tree.specs.declared.Rule.{Rule}
+use Rattle.tree.specs.declared.Rule.the-variants.{Unlisted, Refused, Single, Repeated}
 use Rattle.fields.specs.declared.slots.Slots.{Slots}
 use Rattle.lookups.specs.Views.{orDone, treeOf, bytesAt, noPart, Inside, Lies, Level, SlotInside, isNumber, NumIs, Sub, PartIs}
 use Rattle.lookups.specs.LevelLaws.{nothing-some, level-decodes, level-once, level-of, intC, rawC, subC, int-look, raw-look, sub-look, open-message}

@@ -9,15 +9,15 @@ use lib.Dec.{eqb}
 use borrow.Author.Tests.{eqb-true}
 use Rattle.wire.specs.Reader.{choose}
 use Rattle.wire.specs.Wire.{Value, Field, field, fieldsOf}
-use Rattle.fields.specs.Rules.{ruleOf, strictOf}
-use Rattle.fields.specs.Tree.{mapO, thenO, guard, isSome, Content, cInt, cRaw, cMsg, Item, item, decode, find, add, byRule, step, items, itemsO, level}
-use Rattle.fields.specs.Tree.{Tree, done, int, raw, sub, openOne, openAll, listed, later, intAt, rawAt, joinO, subAt}
-use Rattle.fields.specs.Depth.{listed-opens}
+use Rattle.tree.specs.Rules.{ruleOf, strictOf}
+use Rattle.tree.specs.Tree.{mapO, thenO, guard, isSome, Content, cInt, cRaw, cMsg, Item, item, decode, find, add, byRule, step, items, itemsO, level}
+use Rattle.tree.specs.Tree.{Tree, done, int, raw, sub, openOne, openAll, listed, later, intAt, rawAt, joinO, subAt}
+use Rattle.tree.specs.Depth.{listed-opens}
 use Rattle.fields.specs.Judged.{isSingle}
-use Rattle.fields.specs.declared.table.Kind.{Kind}
-use Rattle.fields.specs.declared.table.Form.{Form}
-use Rattle.fields.specs.declared.table.Rule.{Rule}
-use Rattle.fields.specs.declared.table.Rule.the-variants.{Unlisted, Refused, Single, Repeated}
+use Rattle.tree.specs.declared.Kind.{Kind}
+use Rattle.tree.specs.declared.Form.{Form}
+use Rattle.tree.specs.declared.Rule.{Rule}
+use Rattle.tree.specs.declared.Rule.the-variants.{Unlisted, Refused, Single, Repeated}
 use Rattle.lookups.specs.Views.{orDone, Reads, treeOf}
 
 pub nothing-some : {A B : Type 0} {a : A} → _≡_ {A = Option A} none (some a) → B

@@ -8,14 +8,14 @@ use lib.Dec.{eqb}
 use borrow.Author.Tests.{eqb-true}
 use Rattle.wire.specs.Reader.{choose}
 use Rattle.wire.specs.Wire.{Value, vint, v64, vlen, v32, Field, field, fieldsOf}
-use Rattle.fields.specs.Rules.{ruleOf, strictOf}
-use Rattle.fields.specs.Tree.{mapO, guard, isSome, Content, cInt, cRaw, cMsg, Item, item, isInt32, decode, find, add, byRule, step, items, itemsO, level}
-use Rattle.fields.specs.Tree.{Tree, done, int, raw, sub, openOne, openAll, listed, consIf, intsAt, rawsAt, subsAt}
-use Rattle.fields.specs.declared.table.Kind.{Kind}
-use Rattle.fields.specs.declared.table.Form.{Form}
-use Rattle.fields.specs.declared.table.Form.the-variants.{Int32, Bytes, Nested}
-use Rattle.fields.specs.declared.table.Rule.{Rule}
-use Rattle.fields.specs.declared.table.Rule.the-variants.{Unlisted, Refused, Single, Repeated}
+use Rattle.tree.specs.Rules.{ruleOf, strictOf}
+use Rattle.tree.specs.Tree.{mapO, guard, isSome, Content, cInt, cRaw, cMsg, Item, item, isInt32, decode, find, add, byRule, step, items, itemsO, level}
+use Rattle.tree.specs.Tree.{Tree, done, int, raw, sub, openOne, openAll, listed, consIf, intsAt, rawsAt, subsAt}
+use Rattle.tree.specs.declared.Kind.{Kind}
+use Rattle.tree.specs.declared.Form.{Form}
+use Rattle.tree.specs.declared.Form.the-variants.{Int32, Bytes, Nested}
+use Rattle.tree.specs.declared.Rule.{Rule}
+use Rattle.tree.specs.declared.Rule.the-variants.{Unlisted, Refused, Single, Repeated}
 use Rattle.lookups.specs.Views.{orDone, Reads, treeOf}
 use Rattle.lookups.specs.Values.{valuesOf, orNil, valuesIn, partsOf, numbersOf, partsIn, numbersIn, WellFramed}
 use Rattle.lookups.specs.LevelLaws.{nothing-some, then-some, level-of}

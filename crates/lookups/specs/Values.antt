@@ -10,7 +10,7 @@ use Rattle.wire.specs.Wire.{Value, vint, v64, vlen, v32, Field, field, fieldsOf
 use Rattle.wire.specs.FieldAnswer.{endsFound, valueIn, nextIn}
 use Rattle.wire.specs.declared.field.Found.{Found}
 use Rattle.wire.specs.declared.field.Found.the-variants.{Varint, I64, Len, I32, NoField}
-use Rattle.fields.specs.Tree.{isSome, consIf}
+use Rattle.tree.specs.Tree.{isSome, consIf}
 use Rattle.lookups.specs.Views.{bytesAt, Inside, Lies}
 use Rattle.lookups.specs.declared.parts.Part.{Part}
 use Rattle.lookups.specs.declared.repeated.NextPart.{NextPart}

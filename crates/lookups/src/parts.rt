@@ -1,12 +1,12 @@
 // Numbers and parts of a message, out of the slots of a level.
 ghost use Prim.Native.Nat.{_<_};
-ghost use Rattle.fields.specs.Tree.{level};
+ghost use Rattle.tree.specs.Tree.{level};
 ghost use Rattle.fields.specs.Slots.{Sized, Tells};
 ghost use Rattle.lookups.specs.Views.{bytesAt, Inside, SlotInside, NumIs, PartIs};
 use fields::judge::marked;
 use fields::slots::Slots;
 use fields::slots::collect;
-use fields::table::Kind;
+use tree::Kind;
 
 // A number, if there is one.
 pub struct Num {

@@ -6,7 +6,7 @@ use mathlib.Core.List.{List, [], _∷_, _++_, append-nil, append-assoc}
 use mathlib.Core.Option.{Option, none, some}
 use lib.ListN.{length, drop, getD}
 use lib.Seq.{drop-cons}
-use Rattle.fields.specs.Tree.{Tree, done, int, raw, sub}
+use Rattle.tree.specs.Tree.{Tree, done, int, raw, sub}
 use Rattle.encoding.specs.Encode.{intField, head, lenField, encode, intO, intIf, rawIf, each}
 use Rattle.writers.specs.Pushed.{Pushed, maybe}
 use Rattle.writers.specs.PushedLaws.{_onto_, again, pushed-sub}

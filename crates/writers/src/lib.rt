@@ -5,7 +5,7 @@ ghost use mathlib.Core.List.{[], _∷_};
 ghost use Prim.Native.Nat.{_+_, _^_, _<_, _≤_};
 ghost use lib.ListN.{length};
 ghost use Rattle.wire.specs.Varint.{varintBytes};
-ghost use Rattle.fields.specs.Tree.{done};
+ghost use Rattle.tree.specs.Tree.{done};
 ghost use Rattle.encoding.specs.Encode.{tag, intField, head, lenField, encode, intO, intIf, rawIf};
 ghost use Rattle.writers.specs.Pushed.{Pushed, Starts, be32, maybe};
 

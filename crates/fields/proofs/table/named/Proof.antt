@@ -1,6 +1,6 @@
 -- `fields::table::named` meets its contract: one law for every arm with a number, one for every last arm.
 use Rattle.fields.proofs.Tables.{in-name, no-name}
-use Rattle.fields.specs.declared.table.Names.the-variants.{Priority, Algorithm, Synchronization, StatusCode}
+use Rattle.tree.specs.declared.Names.the-variants.{Priority, Algorithm, Synchronization, StatusCode}
 use borrow.Author.Needs.{needs}
 use Rattle.fields.proofs.table.named.Statement.{statement}
 use Rattle.fields.proofs.table.named.Tie as tie

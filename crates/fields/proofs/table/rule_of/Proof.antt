@@ -1,6 +1,6 @@
 -- `fields::table::rule_of` meets its contract: one law for every arm with a number, one for every last arm.
 use Rattle.fields.proofs.Tables.{in-arm, in-none}
-use Rattle.fields.specs.declared.table.Kind.the-variants.{Message, HmacAuth, Command, Header, Body, KeyValue, Range, Setup, Security, Acl, Scope, ReplyCommand, ReplyBody, ReplyRange, Status}
+use Rattle.tree.specs.declared.Kind.the-variants.{Message, HmacAuth, Command, Header, Body, KeyValue, Range, Setup, Security, Acl, Scope, ReplyCommand, ReplyBody, ReplyRange, Status}
 use borrow.Author.Needs.{needs}
 use Rattle.fields.proofs.table.rule_of.Statement.{statement}
 use Rattle.fields.proofs.table.rule_of.Tie as tie

@@ -1,7 +1,7 @@
 -- `fields::table::strict` meets its contract, arm by arm.
 use mathlib.Core.Path.{sym, ap}
 use borrow.Author.Needs.{needs}
-use Rattle.fields.specs.Rules.{strictOf}
+use Rattle.tree.specs.Rules.{strictOf}
 use Rattle.fields.proofs.table.strict.Statement.{statement}
 use Rattle.fields.proofs.table.strict.Tie as tie
 

@@ -7,17 +7,17 @@ use mathlib.Core.Option.{Option, none, some}
 use mathlib.Core.Bool.{Bool, true, false}
 use Rattle.wire.specs.Reader.{choose}
 use Rattle.wire.specs.Wire.{Value, vlen, Field, field, fieldsOf, Framed}
-use Rattle.fields.specs.Rules.{strictOf, ruleOf}
-use Rattle.fields.specs.Tree.{mapO, thenO, Content, cMsg, Item, item, ofBytes, decode, find, isSome, add, byRule, step, items, itemsO, level}
-use Rattle.fields.specs.Tree.{sub, openOne, openAll, listedIn, listed}
-use Rattle.fields.specs.PutIn.{Has, Replaces, PutIn}
-use Rattle.fields.specs.LevelLaws.{then-none, items-front, items-unlisted}
-use Rattle.fields.specs.PutInLaws.{security-strict}
-use Rattle.fields.specs.declared.table.Kind.{Kind}
-use Rattle.fields.specs.declared.table.Form.{Form}
-use Rattle.fields.specs.declared.table.Form.the-variants.{Nested}
-use Rattle.fields.specs.declared.table.Rule.{Rule}
-use Rattle.fields.specs.declared.table.Rule.the-variants.{Unlisted, Refused, Single, Repeated}
+use Rattle.tree.specs.Rules.{strictOf, ruleOf}
+use Rattle.tree.specs.Tree.{mapO, thenO, Content, cMsg, Item, item, ofBytes, decode, find, isSome, add, byRule, step, items, itemsO, level}
+use Rattle.tree.specs.Tree.{sub, openOne, openAll, listedIn, listed}
+use Rattle.tree.specs.PutIn.{Has, Replaces, PutIn}
+use Rattle.tree.specs.LevelLaws.{then-none, items-front, items-unlisted}
+use Rattle.tree.specs.PutInLaws.{security-strict}
+use Rattle.tree.specs.declared.Kind.{Kind}
+use Rattle.tree.specs.declared.Form.{Form}
+use Rattle.tree.specs.declared.Form.the-variants.{Nested}
+use Rattle.tree.specs.declared.Rule.{Rule}
+use Rattle.tree.specs.declared.Rule.the-variants.{Unlisted, Refused, Single, Repeated}
 
 -- items among which is a message that says nothing
 data Bad (d : ℕ) : List Item → Type 0 where

@@ -5,15 +5,15 @@ use mathlib.Core.List.{List, [], _∷_, _++_, append-nil}
 use mathlib.Core.Option.{none, some}
 use lib.ListN.{length}
 use Rattle.wire.specs.Wire.{varintIn, vint, field, valueOf, readField, fieldsIn, fieldsOf, Framed}
-use Rattle.fields.specs.Rules.{ruleOf}
-use Rattle.fields.specs.Tree.{items, level, done, int, raw, sub, openAll, listedIn, listed}
-use Rattle.fields.specs.PutIn.{Has, Holds, Nothing, PutIn}
-use Rattle.fields.specs.PutInLaws.{put-in-same}
-use Rattle.fields.specs.StrictLaws.{put-in-refused}
-use Rattle.fields.specs.Boundaries.{PutAt, put-in-anywhere}
-use Rattle.fields.specs.declared.table.Kind.{Kind}
-use Rattle.fields.specs.declared.table.Kind.the-variants.{Message, HmacAuth, Command, Header, Body, KeyValue, Security, Acl, Scope}
-use Rattle.fields.specs.declared.table.Form.the-variants.{Nested}
+use Rattle.tree.specs.Rules.{ruleOf}
+use Rattle.tree.specs.Tree.{items, level, done, int, raw, sub, openAll, listedIn, listed}
+use Rattle.tree.specs.PutIn.{Has, Holds, Nothing, PutIn}
+use Rattle.tree.specs.PutInLaws.{put-in-same}
+use Rattle.tree.specs.StrictLaws.{put-in-refused}
+use Rattle.tree.specs.Boundaries.{PutAt, put-in-anywhere}
+use Rattle.tree.specs.declared.Kind.{Kind}
+use Rattle.tree.specs.declared.Kind.the-variants.{Message, HmacAuth, Command, Header, Body, KeyValue, Security, Acl, Scope}
+use Rattle.tree.specs.declared.Form.the-variants.{Nested}
 
 abbrev added : List ℕ
 added = 0x78 ∷ 0x01 ∷ []

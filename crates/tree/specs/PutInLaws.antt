@@ -8,17 +8,17 @@ use mathlib.Core.Bool.{Bool, true, false}
 use lib.Dec.{eqb}
 use Rattle.wire.specs.Reader.{choose}
 use Rattle.wire.specs.Wire.{Value, vlen, Field, field, fieldsOf, Framed}
-use Rattle.fields.specs.Rules.{strictOf, ruleOf}
-use Rattle.fields.specs.Tree.{mapO, thenO, Content, cInt, cRaw, cMsg, Item, item, ofBytes, decode, find, isSome, add, byRule, step, items, itemsO, level}
-use Rattle.fields.specs.Tree.{Tree, int, raw, sub, openOne, openAll, listedIn, listed}
-use Rattle.fields.specs.PutIn.{Has, inSecurity, Replaces, Nothing, PutIn, EqualBut, EqualButO}
-use Rattle.fields.specs.LevelLaws.{items-front, step-unlisted, items-unlisted}
-use Rattle.fields.specs.declared.table.Kind.{Kind}
-use Rattle.fields.specs.declared.table.Kind.the-variants.{Message, HmacAuth, Command, Header, Body, KeyValue, Range, Setup, Security, Acl, Scope, ReplyCommand, ReplyBody, ReplyRange, Status}
-use Rattle.fields.specs.declared.table.Form.{Form}
-use Rattle.fields.specs.declared.table.Form.the-variants.{Bytes, Opaque, Nested}
-use Rattle.fields.specs.declared.table.Rule.{Rule}
-use Rattle.fields.specs.declared.table.Rule.the-variants.{Unlisted, Refused, Single, Repeated}
+use Rattle.tree.specs.Rules.{strictOf, ruleOf}
+use Rattle.tree.specs.Tree.{mapO, thenO, Content, cInt, cRaw, cMsg, Item, item, ofBytes, decode, find, isSome, add, byRule, step, items, itemsO, level}
+use Rattle.tree.specs.Tree.{Tree, int, raw, sub, openOne, openAll, listedIn, listed}
+use Rattle.tree.specs.PutIn.{Has, inSecurity, Replaces, Nothing, PutIn, EqualBut, EqualButO}
+use Rattle.tree.specs.LevelLaws.{items-front, step-unlisted, items-unlisted}
+use Rattle.tree.specs.declared.Kind.{Kind}
+use Rattle.tree.specs.declared.Kind.the-variants.{Message, HmacAuth, Command, Header, Body, KeyValue, Range, Setup, Security, Acl, Scope, ReplyCommand, ReplyBody, ReplyRange, Status}
+use Rattle.tree.specs.declared.Form.{Form}
+use Rattle.tree.specs.declared.Form.the-variants.{Bytes, Opaque, Nested}
+use Rattle.tree.specs.declared.Rule.{Rule}
+use Rattle.tree.specs.declared.Rule.the-variants.{Unlisted, Refused, Single, Repeated}
 
 -- the security part is where the table is strict
 pub security-strict : (k : Kind) → inSecurity k ≡ choose (strictOf k) 1 0

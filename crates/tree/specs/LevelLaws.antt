@@ -7,10 +7,10 @@ use mathlib.Core.Bool.{Bool, true, false}
 use Rattle.wire.specs.Reader.{choose}
 use Rattle.wire.specs.Wire.{Value, Field, field, fieldsOf, consO, Framed}
 use Rattle.wire.specs.WireLaws.{fields-put}
-use Rattle.fields.specs.Rules.{strictOf, ruleOf}
-use Rattle.fields.specs.Tree.{thenO, Item, byRule, step, items, itemsO}
-use Rattle.fields.specs.declared.table.Kind.{Kind}
-use Rattle.fields.specs.declared.table.Rule.the-variants.{Unlisted}
+use Rattle.tree.specs.Rules.{strictOf, ruleOf}
+use Rattle.tree.specs.Tree.{thenO, Item, byRule, step, items, itemsO}
+use Rattle.tree.specs.declared.Kind.{Kind}
+use Rattle.tree.specs.declared.Rule.the-variants.{Unlisted}
 
 pub then-none : {A B : Type 0} (o : Option A) → thenO {B = B} o (λ a. none) ≡ none
 then-none none = refl

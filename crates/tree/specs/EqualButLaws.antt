@@ -6,13 +6,13 @@ use mathlib.Core.Option.{Option, none, some}
 use mathlib.Core.Bool.{Bool, true, false}
 use lib.Dec.{eqb}
 use borrow.Author.Tests.{eqb-true}
-use Rattle.fields.specs.Rules.{ruleOf}
-use Rattle.fields.specs.Tree.{guard, Tree, done, int, raw, sub, later, intAt, rawAt, join, joinO, subAt}
-use Rattle.fields.specs.PutIn.{Has, Replaces, EqualBut}
-use Rattle.fields.specs.declared.table.Kind.{Kind}
-use Rattle.fields.specs.declared.table.Form.the-variants.{Nested}
-use Rattle.fields.specs.declared.table.Rule.{Rule}
-use Rattle.fields.specs.declared.table.Rule.the-variants.{Unlisted, Refused, Single, Repeated}
+use Rattle.tree.specs.Rules.{ruleOf}
+use Rattle.tree.specs.Tree.{guard, Tree, done, int, raw, sub, later, intAt, rawAt, join, joinO, subAt}
+use Rattle.tree.specs.PutIn.{Has, Replaces, EqualBut}
+use Rattle.tree.specs.declared.Kind.{Kind}
+use Rattle.tree.specs.declared.Form.the-variants.{Nested}
+use Rattle.tree.specs.declared.Rule.{Rule}
+use Rattle.tree.specs.declared.Rule.the-variants.{Unlisted, Refused, Single, Repeated}
 
 one-kind : (r : Rule) {j k : Kind} → Has (Nested j) r → Has (Nested k) r → j ≡ k
 one-kind Unlisted h g = absurd h

@@ -8,15 +8,15 @@ use mathlib.Core.Bool.{Bool, true, false}
 use lib.Dec.{eqb}
 use Rattle.wire.specs.Reader.{choose}
 use Rattle.wire.specs.Wire.{Value, vint, v64, vlen, v32, Field, field, fieldsOf}
-use Rattle.fields.specs.Rules.{namesOf, Table, end, row, look, tableOf, strictOf, ruleOf}
-use Rattle.fields.specs.Tree.{mapO, thenO, guard, isSome, among, Content, cInt, cRaw, cMsg, Item, item, isInt32, ofInt, ofBytes, decode, find, add, byRule, step, items, itemsO, level}
-use Rattle.fields.specs.Tree.{Tree, sub, openOne, openAll, listedIn, listed}
-use Rattle.fields.specs.declared.table.Kind.{Kind}
-use Rattle.fields.specs.declared.table.Kind.the-variants.{Message, HmacAuth, Command, Header, Body, KeyValue, Range, Setup, Security, Acl, Scope, ReplyCommand, ReplyBody, ReplyRange, Status}
-use Rattle.fields.specs.declared.table.Form.{Form}
-use Rattle.fields.specs.declared.table.Form.the-variants.{Int64, Int32, Named, Flag, Bytes, Opaque, Nested}
-use Rattle.fields.specs.declared.table.Rule.{Rule}
-use Rattle.fields.specs.declared.table.Rule.the-variants.{Unlisted, Refused, Single, Repeated}
+use Rattle.tree.specs.Rules.{namesOf, Table, end, row, look, tableOf, strictOf, ruleOf}
+use Rattle.tree.specs.Tree.{mapO, thenO, guard, isSome, among, Content, cInt, cRaw, cMsg, Item, item, isInt32, ofInt, ofBytes, decode, find, add, byRule, step, items, itemsO, level}
+use Rattle.tree.specs.Tree.{Tree, sub, openOne, openAll, listedIn, listed}
+use Rattle.tree.specs.declared.Kind.{Kind}
+use Rattle.tree.specs.declared.Kind.the-variants.{Message, HmacAuth, Command, Header, Body, KeyValue, Range, Setup, Security, Acl, Scope, ReplyCommand, ReplyBody, ReplyRange, Status}
+use Rattle.tree.specs.declared.Form.{Form}
+use Rattle.tree.specs.declared.Form.the-variants.{Int64, Int32, Named, Flag, Bytes, Opaque, Nested}
+use Rattle.tree.specs.declared.Rule.{Rule}
+use Rattle.tree.specs.declared.Rule.the-variants.{Unlisted, Refused, Single, Repeated}
 
 -- the test: the messages inside a message of a kind go at most so deep, by the rows of the table ----------------------
 

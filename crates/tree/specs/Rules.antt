@@ -4,14 +4,14 @@ use mathlib.Core.List.{List, [], _∷_}
 use mathlib.Core.Bool.{Bool, true, false}
 use lib.Dec.{eqb}
 use Rattle.wire.specs.Reader.{choose}
-use Rattle.fields.specs.declared.table.Kind.{Kind}
-use Rattle.fields.specs.declared.table.Kind.the-variants.{Message, HmacAuth, Command, Header, Body, KeyValue, Range, Setup, Security, Acl, Scope, ReplyCommand, ReplyBody, ReplyRange, Status}
-use Rattle.fields.specs.declared.table.Names.{Names}
-use Rattle.fields.specs.declared.table.Names.the-variants.{Priority, Algorithm, Synchronization, StatusCode}
-use Rattle.fields.specs.declared.table.Form.{Form}
-use Rattle.fields.specs.declared.table.Form.the-variants.{Int64, Int32, Named, Flag, Bytes, Opaque, Nested}
-use Rattle.fields.specs.declared.table.Rule.{Rule}
-use Rattle.fields.specs.declared.table.Rule.the-variants.{Unlisted, Refused, Single, Repeated}
+use Rattle.tree.specs.declared.Kind.{Kind}
+use Rattle.tree.specs.declared.Kind.the-variants.{Message, HmacAuth, Command, Header, Body, KeyValue, Range, Setup, Security, Acl, Scope, ReplyCommand, ReplyBody, ReplyRange, Status}
+use Rattle.tree.specs.declared.Names.{Names}
+use Rattle.tree.specs.declared.Names.the-variants.{Priority, Algorithm, Synchronization, StatusCode}
+use Rattle.tree.specs.declared.Form.{Form}
+use Rattle.tree.specs.declared.Form.the-variants.{Int64, Int32, Named, Flag, Bytes, Opaque, Nested}
+use Rattle.tree.specs.declared.Rule.{Rule}
+use Rattle.tree.specs.declared.Rule.the-variants.{Unlisted, Refused, Single, Repeated}
 
 -- the values that an enum names
 abbrev pub namesOf : Names → List ℕ

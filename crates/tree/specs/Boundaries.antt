@@ -7,12 +7,12 @@ use mathlib.Core.Option.{Option, none, some}
 use lib.ListN.{length, length-append}
 use Rattle.wire.specs.Reader.{Got, nothing, got}
 use Rattle.wire.specs.Wire.{Value, Field, field, readField, consO, thenFields, fieldsIn, fieldsOf, Framed}
-use Rattle.fields.specs.Rules.{ruleOf}
-use Rattle.fields.specs.PutIn.{Has, Holds, inSecurity, Replaces, PutIn}
-use Rattle.fields.specs.FrontLaws.{field-front, framed-other, framed-length}
-use Rattle.fields.specs.declared.table.Kind.{Kind}
-use Rattle.fields.specs.declared.table.Form.the-variants.{Nested}
-use Rattle.fields.specs.declared.table.Rule.the-variants.{Unlisted}
+use Rattle.tree.specs.Rules.{ruleOf}
+use Rattle.tree.specs.PutIn.{Has, Holds, inSecurity, Replaces, PutIn}
+use Rattle.tree.specs.FrontLaws.{field-front, framed-other, framed-length}
+use Rattle.tree.specs.declared.Kind.{Kind}
+use Rattle.tree.specs.declared.Form.the-variants.{Nested}
+use Rattle.tree.specs.declared.Rule.the-variants.{Unlisted}
 
 -- m' is the message m of kind k with the bytes y put in at a field boundary of a message of kind j, which m is or holds at some depth: whole fields stand
 -- before the place, and the enclosing lengths are corrected

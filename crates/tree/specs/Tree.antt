@@ -6,12 +6,12 @@ use mathlib.Core.Bool.{Bool, true, false}
 use lib.Dec.{ltb, leb, eqb}
 use Rattle.wire.specs.Reader.{choose}
 use Rattle.wire.specs.Wire.{Value, vint, v64, vlen, v32, Field, field, fieldsOf}
-use Rattle.fields.specs.Rules.{namesOf, strictOf, ruleOf}
-use Rattle.fields.specs.declared.table.Kind.{Kind}
-use Rattle.fields.specs.declared.table.Form.{Form}
-use Rattle.fields.specs.declared.table.Form.the-variants.{Int64, Int32, Named, Flag, Bytes, Opaque, Nested}
-use Rattle.fields.specs.declared.table.Rule.{Rule}
-use Rattle.fields.specs.declared.table.Rule.the-variants.{Unlisted, Refused, Single, Repeated}
+use Rattle.tree.specs.Rules.{namesOf, strictOf, ruleOf}
+use Rattle.tree.specs.declared.Kind.{Kind}
+use Rattle.tree.specs.declared.Form.{Form}
+use Rattle.tree.specs.declared.Form.the-variants.{Int64, Int32, Named, Flag, Bytes, Opaque, Nested}
+use Rattle.tree.specs.declared.Rule.{Rule}
+use Rattle.tree.specs.declared.Rule.the-variants.{Unlisted, Refused, Single, Repeated}
 
 abbrev pub mapO : {A B : Type 0} → (A → B) → Option A → Option B
 mapO f none = none

@@ -1,0 +1,11 @@
+pub mod Rules
+pub mod Tree
+pub mod PutIn
+pub mod LevelLaws
+pub mod PutInLaws
+pub mod StrictLaws
+pub mod EqualButLaws
+pub mod FrontLaws
+pub mod Boundaries
+pub mod PutInExamples
+pub mod Depth
