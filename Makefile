@@ -6,9 +6,13 @@ test:
 	rt fmt --check
 	rt ci
 
-# The outside vectors, with a line for each saying what was compared.
+# What there is to run: the outside vectors, with a line for each saying what was compared.
 run:
-	rt check signature_main
+	rt check signature_main fields_main writers_main store_main verdicts
+	tests/compare.py fields_main "protoc's bytes and lines worked out by tests/fields.py"
+	tests/compare.py writers_main "protoc's bytes"
+	tests/compare.py store_main "tests/store_expected.py, from the table of blocks"
+	tests/compare.py verdicts "docs/VERDICTS.md"
 	target/bin/signature_main > target/signature_vectors.txt
 	tests/signature_vectors.py --compare target/signature_vectors.txt
 

@@ -37,6 +37,9 @@ pub both-snd : (x y : Bool) → both x y ≡ true → y ≡ true
 both-snd true y e = e
 both-snd false y e = absurd (let z : _≡_ {A = ℕ} 0 1 = cc in omega arith)
 
+pub within-low : (a b n : ℕ) → within a b n ≡ true → a ≤ n
+within-low a b n e = leb-true a n (both-fst (leb a n) (leb n b) e)
+
 pub within-high : (a b n : ℕ) → within a b n ≡ true → n ≤ b
 within-high a b n e = leb-true n b (both-snd (leb a n) (leb n b) e)
 

@@ -1,0 +1,63 @@
+-- The answer of a call, from what a message is read as.
+use Prim.Native.Nat.{ℕ, _+_}
+use mathlib.Core.List.{List}
+use mathlib.Core.Option.{Option}
+use mathlib.Core.Bool.{Bool}
+use lib.ListN.{length}
+use lib.Dec.{ltb}
+use Rattle.wire.specs.Reader.{choose}
+use Rattle.tree.specs.Tree.{Tree}
+use Rattle.protocol.specs.Frame.{Framing, more, closes, whole, frameOf}
+use Rattle.protocol.specs.Reading.{Reading, closing, undecodable, read, readingBy}
+
+-- reply bytes, and what is lent afterwards
+pub data Reply (S : Type 0) : Type 0 where
+  reply : List ℕ → S → Reply S
+
+pub data Outcome (S : Type 0) : Type 0 where
+  -- by its number: nothing lent changes, no input is taken, no reply is written
+  refused : ℕ → Outcome S
+  -- reply bytes, what is lent afterwards, the count of input bytes taken
+  answered : List ℕ → S → ℕ → Outcome S
+
+-- the rest of document 01, any that there may be. A state is the store, the device record with its table, and the connection
+pub record Device : Type 1 where
+  pub State : Type 0
+  pub storeGood : State → Bool
+  pub recordGood : State → Bool
+  pub closed : State → Bool
+  -- the key of an identity, in the state's table
+  pub keyOf : State → ℕ → Option (List ℕ)
+  -- the digest of a text under a key: the key first
+  pub hmac : List ℕ → List ℕ → List ℕ
+  -- the closing reply with a code, and the state with the connection closed
+  pub close : State → ℕ → Reply State
+  -- the reply INVALID_REQUEST to a command that does not decode: from the connection's number, signed with the identity and the key
+  pub invalid : State → ℕ → List ℕ → List ℕ
+  -- steps 4 to 10 and the reply: identity, key, command, value part
+  pub decide : State → ℕ → List ℕ → Tree → List ℕ → Reply State
+
+abbrev pub taking : {S : Type 0} → ℕ → Reply S → Outcome S
+taking n (reply r s) = answered r s n
+
+-- the call refusals 1 to 4, in their order: reply buffer short, store good, record good, connection closed
+abbrev pub unlessRefused : {S : Type 0} → Bool → Bool → Bool → Bool → Outcome S → Outcome S
+unlessRefused short store device closed o = choose short (refused 1) (choose store (choose device (choose closed (refused 4) o) (refused 3)) (refused 2))
+
+module _ (D : Device) where
+  abbrev pub reading : D .State → List ℕ → Reading
+  reading s m = readingBy (D .hmac) (D .keyOf s) m
+
+  abbrev pub respond : D .State → List ℕ → Reading → Reply (D .State)
+  respond s v (closing code) = D .close s code
+  respond s v (undecodable i key) = reply (D .invalid s i key) s
+  respond s v (read i key t) = D .decide s i key t v
+
+  abbrev pub serve : D .State → ℕ → Framing → Outcome (D .State)
+  serve s n more = refused 5
+  serve s n closes = taking n (D .close s 20)
+  serve s n (whole m v rest) = taking (9 + length m + length v) (respond s v (reading s m))
+
+  -- the length of the reply buffer, the input
+  unfoldable pub answer : D .State → ℕ → List ℕ → Outcome (D .State)
+  answer s out xs = unlessRefused (ltb out 4096) (D .storeGood s) (D .recordGood s) (D .closed s) (serve s (length xs) (frameOf xs))

@@ -1,0 +1,73 @@
+-- The box: document 01 whole, as one device of `Answer`.
+use mathlib.Core.List.{List, []}
+use mathlib.Core.Option.{Option, none, some}
+use Prim.Native.Nat.{ℕ, _-_, _^_}
+use Rattle.tree.specs.Tree.{Tree, mapO}
+use Rattle.access.specs.Table as access
+use Rattle.access.specs.Table.{placeOf, tableGood}
+use Rattle.access.specs.declared.Found.{Found}
+use Rattle.access.specs.declared.Found.the-variants.{At, Nobody}
+use Rattle.store.specs.Store.{storeGood}
+use Rattle.signature.specs.Hmac.{hmac}
+use Rattle.protocol.specs.State.{State, table, closing}
+use Rattle.protocol.specs.Command.{Header, Command, commandOf}
+use Rattle.protocol.specs.Operation.{askedBy, replyType}
+use Rattle.protocol.specs.Judge.{Result, judge, bare}
+use Rattle.protocol.specs.Reply.{commandTree, signedReply, closingReply}
+use Rattle.protocol.specs.Answer.{Device, Reply, reply, Outcome, answer}
+
+-- step 2: the ACL of an identity
+abbrev pub aclAt : State → Found → Option access.Acl
+aclAt s (At i) = some (access.aclOf (table s) i)
+aclAt s Nobody = none
+
+abbrev pub aclOf : State → ℕ → Option access.Acl
+aclOf s i = aclAt s (placeOf (table s) i)
+
+-- "Otherwise … and close"
+abbrev pub close : State → ℕ → Reply State
+close s code = reply (closingReply (s .connection .number) code) (closing s)
+
+-- step 3: INVALID_REQUEST (16), type -1, no field 6
+abbrev pub invalid : State → ℕ → List ℕ → List ℕ
+invalid s i key = signedReply i key (commandTree (s .connection .number) none (2 ^ 64 - 1) bare 16) []
+
+abbrev pub sequenceOf : Option Header → Option ℕ
+sequenceOf none = none
+sequenceOf (some h) = h .sequence
+
+abbrev pub typeOf : Option Header → Option ℕ
+typeOf none = none
+typeOf (some h) = h .messageType
+
+-- the reply to a command that decodes, and what is lent afterwards
+abbrev pub told : State → ℕ → List ℕ → Command → Result → Reply State
+told s i key c r =
+    reply (signedReply i key (commandTree (s .connection .number) (sequenceOf (c .header)) (replyType (askedBy (typeOf (c .header)))) (r .body) (r .code)) (r .value))
+    (r .state)
+
+abbrev pub judged : State → ℕ → List ℕ → Command → List ℕ → Option access.Acl → Reply State
+judged s i key c v none = close s 2
+judged s i key c v (some a) = told s i key c (judge s a c v)
+
+-- steps 4 to 10
+unfoldable pub decide : State → ℕ → List ℕ → Tree → List ℕ → Reply State
+decide s i key t v = judged s i key (commandOf t) v (aclOf s i)
+
+abbrev pub box : Device
+box =
+    record {
+      State = State;
+      storeGood = λ s. storeGood (s .store);
+      recordGood = λ s. tableGood (table s);
+      closed = λ s. s .connection .closed;
+      keyOf = λ s i. mapO (λ a. a .key) (aclOf s i);
+      hmac = hmac;
+      close = close;
+      invalid = invalid;
+      decide = decide;
+    }
+
+-- the answering call: the lent state, the length of the reply buffer, the input
+abbrev pub answers : State → ℕ → List ℕ → Outcome State
+answers s out xs = answer box s out xs

@@ -1,0 +1,54 @@
+-- Demand 3: what is put into a message, and the two theorems' statements.
+use Prim.Native.Nat.{ℕ, suc}
+use mathlib.Core.Path.{_≡_}
+use mathlib.Core.Logic.{_⊎_}
+use mathlib.Core.List.{List, _++_}
+use mathlib.Core.Option.{some}
+use lib.ListN.{length}
+use Rattle.tree.specs.Tree.{Tree}
+use Rattle.tree.specs.PutIn.{Nothing, PutIn}
+use Rattle.protocol.specs.Frame.{frame, Fits}
+use Rattle.protocol.specs.Reading.{readMessage, envelope, undecodable, read}
+use Rattle.protocol.specs.Answer.{Device, Outcome, refused, answered, reading, answer}
+use Rattle.tree.specs.declared.Kind.{Kind}
+use Rattle.tree.specs.declared.Kind.the-variants.{Message, HmacAuth, Command}
+
+-- in the message around it the commandBytes and the hmac are: Edited and Signed say by what, for those that count
+pub data Free : Kind → ℕ → List ℕ → List ℕ → Type 0 where
+  command : (b b' : List ℕ) → Free Message 7 b b'
+  hmac : (b b' : List ℕ) → Free HmacAuth 2 b b'
+
+-- m' is the message m with fields put in, c of them inside the security part, and lengths corrected: around the command, and in the commandBytes that count
+pub record Edited (c : ℕ) (m m' : List ℕ) : Type 0 where
+  pub around : PutIn Free Message 0 m m'
+  pub within : (i i' : ℕ) (sig sig' b b' : List ℕ) → readMessage m ≡ some (envelope i sig b) → readMessage m' ≡ some (envelope i' sig' b') → PutIn Nothing Command c b b'
+
+-- two outcomes are the same but for the count of input bytes taken: a of them there, a' here
+abbrev pub SameBut : {S : Type 0} → ℕ → ℕ → Outcome S → Outcome S → Type 0
+SameBut {S} a a' o o' =
+    ((n : ℕ) × (o ≡ refused n) × (o' ≡ refused n))
+    ⊎ ((reply : List ℕ) × (s : S) × (o ≡ answered reply s a) × (o' ≡ answered reply s a'))
+
+module _ (D : Device) where
+  -- signed under the key: the hmac that counts is right for the commandBytes that count
+  abbrev pub Signed : List ℕ → List ℕ → Type 0
+  Signed key m = (i : ℕ) (sig c : List ℕ) → readMessage m ≡ some (envelope i sig c) → sig ≡ D .hmac key c
+
+  -- the first half
+  abbrev pub SameAnswer : Type 0
+  SameAnswer =
+      (s : D .State) (out : ℕ) (m m' v rest rest' : List ℕ) (i : ℕ) (key : List ℕ) (t : Tree)
+      → reading D s m ≡ read i key t → Fits m v
+      → Edited 0 m m' → Signed key m' → Fits m' v
+      → (reading D s m' ≡ read i key t)
+      × SameBut (length (frame m v)) (length (frame m' v)) (answer D s out (frame m v ++ rest)) (answer D s out (frame m' v ++ rest'))
+
+  -- the second half
+  abbrev pub StrangeAnswer : Type 0
+  StrangeAnswer =
+      (s : D .State) (out : ℕ) (m m' v rest' : List ℕ) (i : ℕ) (key : List ℕ) (t : Tree) (c : ℕ)
+      → reading D s m ≡ read i key t
+      → Edited (suc c) m m' → Signed key m' → Fits m' v
+      → ((n : ℕ) → answer D s out (frame m' v ++ rest') ≡ refused n → ⊥)
+      → (reading D s m' ≡ undecodable i key)
+      × (answer D s out (frame m' v ++ rest') ≡ answered (D .invalid s i key) s (length (frame m' v)))

@@ -1,0 +1,217 @@
+-- Demand 3 put to use: a message with the box's own hmac under any key, and fields put in at every depth. None of the conditions is empty.
+use Prim.Native.Nat.{ℕ, _+_, _*_, _≤_}
+use native.Mathlib.Omega.{arith}
+use mathlib.Core.Path.{_≡_, refl, sym, ap, _∙_, subst₂}
+use mathlib.Core.List.{List, [], _∷_, _++_}
+use mathlib.Core.Option.{Option, some}
+use lib.ListN.{length, length-append}
+use Rattle.wire.specs.Wire.{varintIn, vint, vlen, field, valueOf, readField, fieldsIn, fieldsOf, Framed}
+use Rattle.tree.specs.Tree.{mapO, thenO, Tree, done, int, raw, sub, items, level, openAll, listedIn, listed}
+use Rattle.tree.specs.PutIn.{Nothing, PutIn}
+use Rattle.tree.specs.PutInLaws.{put-in-same}
+use Rattle.tree.specs.declared.Kind.the-variants.{Message, HmacAuth, Command, Header, Body, KeyValue, Security}
+use Rattle.encoding.specs.Encode.{intField, lenField, encode, Fits, ends}
+use Rattle.encoding.specs.Cost.{encode-cost, int-length, len-length}
+use Rattle.encoding.specs.FitsLaws.{number, fit-int, fit-raw, fit-sub}
+use Rattle.encoding.specs.Back.{int-framed, len-framed, read-back}
+use Rattle.signature.specs.Hmac.{hmac}
+use Rattle.access.specs.Table.{findFrom, placeOf, aclOf, hostTable}
+use Rattle.access.specs.Record.{tableOf, tableBytes}
+use Rattle.access.specs.Readback.{table-back, host-good}
+use Rattle.protocol.specs.Frame as framing
+use Rattle.protocol.specs.Frame.{frame}
+use Rattle.protocol.specs.State.{State}
+use Rattle.protocol.specs.Reading.{Envelope, envelope, envelopeOf, readMessage, read, undecodable, decoded}
+use Rattle.protocol.specs.Answer.{refused, answered, reading}
+use Rattle.protocol.specs.Demand.{Free, Edited, SameBut, Signed}
+use Rattle.protocol.specs.Proved.{reads}
+use Rattle.protocol.specs.Reply.{signedTree, signedReply}
+use Rattle.protocol.specs.Box as the
+use Rattle.protocol.specs.Box.{box, answers}
+use Rattle.protocol.specs.Digest.{hmac-length}
+use Rattle.protocol.specs.Demand3.{same, strange-told, invalidTree}
+
+-- the field 15 with the number 1, which no kind lists
+abbrev pub added : List ℕ
+added = 0x78 ∷ 0x01 ∷ []
+
+added-framed : Framed (field 15 (vint 1)) added
+unfolding readField valueOf varintIn
+added-framed = record { whole = refl }
+
+-- an HMACauth of identity 1; the message with it and the commandBytes b
+abbrev pub auth : List ℕ → List ℕ → List ℕ
+auth key b = encode (int 1 1 (raw 2 (hmac key b) done))
+
+abbrev pub message : List ℕ → List ℕ → List ℕ
+message key b = encode (signedTree 1 key b)
+
+-- the same with a field put into the Message and one into the HMACauth
+abbrev pub fuller : List ℕ → List ℕ → List ℕ
+fuller key b = added ++ (intField 4 1 ++ (lenField 5 (added ++ auth key b) ++ (lenField 7 b ++ [])))
+
+module _ (key b : List ℕ) (short : length b ≤ 1024) where
+  auth-fits : Fits HmacAuth (int 1 1 (raw 2 (hmac key b) done))
+  auth-fits = fit-int (number refl) (omega arith) refl (fit-raw (number refl) (omega (arith, hmac-length key b)) refl ends)
+
+  auth-length : length (auth key b) ≤ 50
+  auth-length = omega (arith, encode-cost auth-fits, hmac-length key b)
+
+  message-fits : Fits Message (signedTree 1 key b)
+  message-fits =
+      fit-int (number refl) (omega arith) refl
+      (fit-sub HmacAuth (number refl) (omega (arith, hmac-length key b)) refl auth-fits (fit-raw (number refl) (omega arith) refl ends))
+
+  message-length : length (message key b) ≤ 1124
+  message-length = omega (arith, encode-cost message-fits, hmac-length key b)
+
+  fuller-length : length (fuller key b) ≤ 1124
+  fuller-length =
+      let a = length-append (intField 4 1) (lenField 5 (added ++ auth key b) ++ (lenField 7 b ++ [])) in
+      let c = length-append (lenField 5 (added ++ auth key b)) (lenField 7 b ++ []) in
+      let d = length-append (lenField 7 b) [] in
+      omega (arith, auth-length, int-length 4 1 (omega arith) (omega arith), len-length 5 (added ++ auth key b) (omega arith) (omega (arith, auth-length)), len-length 7 b (omega arith) (omega arith))
+
+  -- what it is read as
+  message-read : readMessage (message key b) ≡ some (envelope 1 (hmac key b) b)
+  unfolding readMessage
+  message-read = ap (λ o. thenO o (λ t. envelopeOf t)) (read-back message-fits)
+
+  auth-framed : Framed (field 5 (vlen (added ++ auth key b))) (lenField 5 (added ++ auth key b))
+  auth-framed = len-framed 5 (added ++ auth key b) (number refl) (omega (arith, auth-length))
+
+  fuller-put : PutIn Nothing Message 0 (message key b) (fuller key b)
+  unfolding encode
+  fuller-put =
+      PutIn.put 15 (vint 1) added-framed refl
+      (PutIn.keep (field 4 (vint 1)) (int-framed 4 1 (number refl) (omega arith)) (int-framed 4 1 (number refl) (omega arith))
+      (PutIn.inside 5 HmacAuth (auth key b) (added ++ auth key b) (len-framed 5 (auth key b) (number refl) (omega (arith, auth-length))) auth-framed refl
+      (PutIn.put 15 (vint 1) added-framed refl (PutIn.same HmacAuth (auth key b))) (PutIn.same Message (lenField 7 b ++ []))))
+
+  fuller-read : readMessage (fuller key b) ≡ some (envelope 1 (hmac key b) b)
+  unfolding readMessage
+  fuller-read = ap (λ o. thenO o (λ t. envelopeOf t)) (put-in-same fuller-put ∙ read-back message-fits)
+
+  signed-right : {i : ℕ} {sig c : List ℕ} → _≡_ {A = Option Envelope} (some (envelope 1 (hmac key b) b)) (some (envelope i sig c)) → sig ≡ hmac key c
+  signed-right {i} {sig} {c} e = let p : sig ≡ hmac key b = cc in let q : b ≡ c = cc in p ∙ ap (hmac key) q
+
+  -- the hmac that counts is right for the commandBytes that count
+  pub signed : Signed box key (fuller key b)
+  signed i sig c e = signed-right (sym fuller-read ∙ e)
+
+  -- a device record as Format makes it knows the identity
+  known : (s : State) → 1 ≤ length key → length key ≤ 64 → s .device ≡ tableBytes (hostTable key) → reading box s (message key b) ≡ decoded 1 key (listed Command b)
+  unfolding placeOf findFrom aclOf
+  known s least most e =
+      reads hmac (λ i. mapO (λ a. a .key) (the.aclOf s i)) (message key b) message-read
+      (ap (λ t. mapO (λ a. a .key) (the.aclAt s (placeOf t 1))) (ap tableOf e ∙ table-back (hostTable key) (host-good key least most))
+      ∙ ap (λ t. some (aclOf t 0 .key)) (ap tableOf e ∙ table-back (hostTable key) (host-good key least most))) refl
+
+inner : {i j : ℕ} {x y c d : List ℕ} → _≡_ {A = Option Envelope} (some (envelope i x c)) (some (envelope j y d)) → c ≡ d
+inner e = cc
+
+-- fields put into the command, the HMACauth and the Message, and signed again
+pub edited : (key b b' : List ℕ) {c : ℕ} → length b ≤ 1024 → length b' ≤ 1024 → PutIn Nothing Command c b b' → Edited c (message key b) (fuller key b')
+unfolding encode
+edited key b b' {c} h h' p = record {
+  around =
+      PutIn.put 15 (vint 1) added-framed refl
+      (PutIn.keep (field 4 (vint 1)) (int-framed 4 1 (number refl) (omega arith)) (int-framed 4 1 (number refl) (omega arith))
+      (PutIn.inside 5 HmacAuth (auth key b) (added ++ auth key b') (len-framed 5 (auth key b) (number refl) (omega (arith, auth-length key b h))) (auth-framed key b' h') refl
+      (PutIn.put 15 (vint 1) added-framed refl
+      (PutIn.keep (field 1 (vint 1)) (int-framed 1 1 (number refl) (omega arith)) (int-framed 1 1 (number refl) (omega arith))
+      (PutIn.replaced 2 (hmac key b) (hmac key b') (len-framed 2 (hmac key b) (number refl) (omega (arith, hmac-length key b))) (len-framed 2 (hmac key b') (number refl) (omega (arith, hmac-length key b'))) refl
+      (Free.hmac (hmac key b) (hmac key b')) (PutIn.same HmacAuth []))))
+      (PutIn.replaced 7 b b' (len-framed 7 b (number refl) (omega arith)) (len-framed 7 b' (number refl) (omega arith)) refl (Free.command b b') (PutIn.same Message []))));
+  within = λ i i' sig sig' d d' e e'. subst₂ (PutIn Nothing Command c) (inner (sym (message-read key b h) ∙ e)) (inner (sym (fuller-read key b' h') ∙ e')) p;
+}
+
+-- ---- a PUT of the key "A", with a field put into the Command, the Header, the Body and the KeyValue too
+
+-- tag, length and bytes, where one byte is enough for each
+abbrev hold : ℕ → List ℕ → List ℕ
+hold n b = (n * 8 + 2) ∷ length b ∷ b
+
+-- connectionID 1, sequence 2, a messageType
+abbrev header : ℕ → List ℕ
+header y = 0x18 ∷ 0x01 ∷ 0x20 ∷ 0x02 ∷ 0x38 ∷ y ∷ []
+
+abbrev key-A : List ℕ
+key-A = 0x1a ∷ 0x01 ∷ 0x41 ∷ []
+
+abbrev pub plain : List ℕ
+plain = hold 1 (header 4) ++ hold 2 (hold 1 key-A)
+
+abbrev pub newer : List ℕ
+newer = added ++ (hold 1 (added ++ header 4) ++ (hold 2 (added ++ hold 1 (added ++ key-A))))
+
+abbrev pub tree : Tree
+tree = sub 1 (int 3 1 (int 4 2 (int 7 4 done))) (sub 2 (sub 1 (raw 3 (0x41 ∷ []) done) done) done)
+
+says-plain : listed Command plain ≡ some tree
+unfolding listed listedIn level openAll items fieldsOf fieldsIn readField valueOf varintIn
+says-plain = refl
+
+pub put-newer : PutIn Nothing Command 0 plain newer
+unfolding readField valueOf varintIn
+put-newer =
+    PutIn.put 15 (vint 1) added-framed refl
+    (PutIn.inside {x = hold 1 (header 4)} {x' = hold 1 (added ++ header 4)} 1 Header (header 4) (added ++ header 4) (record { whole = refl }) (record { whole = refl }) refl
+    (PutIn.put 15 (vint 1) added-framed refl (PutIn.same Header (header 4)))
+    (PutIn.inside {m = []} {m' = []} {x = hold 2 (hold 1 key-A)} {x' = hold 2 (added ++ hold 1 (added ++ key-A))} 2 Body (hold 1 key-A) (added ++ hold 1 (added ++ key-A)) (record { whole = refl }) (record { whole = refl }) refl
+    (PutIn.put 15 (vint 1) added-framed refl
+    (PutIn.inside {m = []} {m' = []} {x = hold 1 key-A} {x' = hold 1 (added ++ key-A)} 1 KeyValue key-A (added ++ key-A) (record { whole = refl }) (record { whole = refl }) refl
+    (PutIn.put 15 (vint 1) added-framed refl (PutIn.same KeyValue key-A)) (PutIn.same Body [])))
+    (PutIn.same Command [])))
+
+-- ---- a SECURITY, with a field put into the Security
+
+abbrev acls : List ℕ
+acls = hold 2 (0x08 ∷ 0x01 ∷ hold 4 (0x18 ∷ 0x00 ∷ []))
+
+abbrev pub securing : List ℕ
+securing = hold 1 (header 26) ++ hold 2 (hold 7 acls)
+
+abbrev pub stranger : List ℕ
+stranger = hold 1 (header 26) ++ hold 2 (hold 7 (added ++ acls))
+
+abbrev pub security-tree : Tree
+security-tree = sub 1 (int 3 1 (int 4 2 (int 7 26 done))) (sub 2 (sub 7 (sub 2 (int 1 1 (sub 4 (int 3 0 done) done)) done) done) done)
+
+says-securing : listed Command securing ≡ some security-tree
+unfolding listed listedIn level openAll items fieldsOf fieldsIn readField valueOf varintIn
+says-securing = refl
+
+pub put-stranger : PutIn Nothing Command 1 securing stranger
+unfolding readField valueOf varintIn
+put-stranger =
+    PutIn.inside {x = hold 1 (header 26)} {x' = hold 1 (header 26)} 1 Header (header 26) (header 26) (record { whole = refl }) (record { whole = refl }) refl (PutIn.same Header (header 26))
+    (PutIn.inside {m = []} {m' = []} {x = hold 2 (hold 7 acls)} {x' = hold 2 (hold 7 (added ++ acls))} 2 Body (hold 7 acls) (hold 7 (added ++ acls)) (record { whole = refl }) (record { whole = refl }) refl
+    (PutIn.inside {m = []} {m' = []} {x = hold 7 acls} {x' = hold 7 (added ++ acls)} 7 Security acls (added ++ acls) (record { whole = refl }) (record { whole = refl }) refl
+    (PutIn.put 15 (vint 1) added-framed refl (PutIn.same Security acls)) (PutIn.same Body []))
+    (PutIn.same Command []))
+
+-- ---- the two theorems, for every key, value part, store, connection and reply buffer; the record is the one that Format makes
+
+module _ (s : State) (key : List ℕ) (least : 1 ≤ length key) (most : length key ≤ 64) (formatted : s .device ≡ tableBytes (hostTable key))
+    (out : ℕ) (v rest rest' : List ℕ) (limit : length v ≤ 1024) where
+  in-limits : (b : List ℕ) → length b ≤ 1024 → framing.Fits (message key b) v
+  in-limits b h = record { message = omega (arith, message-length key b h); value = limit }
+
+  fuller-limits : (b : List ℕ) → length b ≤ 1024 → framing.Fits (fuller key b) v
+  fuller-limits b h = record { message = omega (arith, fuller-length key b h); value = limit }
+
+  pub same-shown : (reading box s (fuller key newer) ≡ read 1 key tree)
+      × SameBut (length (frame (message key plain) v)) (length (frame (fuller key newer) v)) (answers s out (frame (message key plain) v ++ rest)) (answers s out (frame (fuller key newer) v ++ rest'))
+  same-shown =
+      same s out (message key plain) (fuller key newer) v rest rest' 1 key tree
+      (known key plain (omega arith) s least most formatted ∙ ap (decoded 1 key) says-plain) (in-limits plain (omega arith))
+      (edited key plain newer (omega arith) (omega arith) put-newer) (signed key newer (omega arith)) (fuller-limits newer (omega arith))
+
+  pub strange-shown : ((n : ℕ) → answers s out (frame (fuller key stranger) v ++ rest') ≡ refused n → ⊥)
+      → (reading box s (fuller key stranger) ≡ undecodable 1 key)
+      × (answers s out (frame (fuller key stranger) v ++ rest') ≡ answered (signedReply 1 key (invalidTree (s .connection .number)) []) s (length (frame (fuller key stranger) v)))
+  strange-shown h =
+      strange-told s out (message key securing) (fuller key stranger) v rest' 1 key security-tree 0
+      (known key securing (omega arith) s least most formatted ∙ ap (decoded 1 key) says-securing)
+      (edited key securing stranger (omega arith) (omega arith) put-stranger) (signed key stranger (omega arith)) (fuller-limits stranger (omega arith)) h

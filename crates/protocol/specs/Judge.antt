@@ -1,0 +1,292 @@
+-- Document 01, "The order of judgement", steps 4 to 9, and "What each does", step 10: each step has the next as its last argument.
+use mathlib.Core.Bool.{Bool, true, false, not}
+use mathlib.Core.List.{List, [], _∷_, reverse}
+use mathlib.Core.Option.{Option, none, some}
+use Prim.Native.Nat.{ℕ, _+_, _%_, _^_}
+use lib.Dec.{eqb, leb, ltb}
+use lib.ListN.{length, take, getD}
+use Rattle.wire.specs.Reader.{choose}
+use Rattle.tree.specs.Tree.{isSome}
+use Rattle.access.specs.Table as access
+use Rattle.access.specs.Table.{both, either, all, within, named, maskOf, tableGood}
+use Rattle.access.specs.Permission.{sameBytes, permits, permitsAny, permitsRange}
+use Rattle.access.specs.Record.{tableBytes, withClusterVersion}
+use Rattle.block.specs.Order.{cmp}
+use Rattle.block.specs.Block.{isLess, isEqual}
+use Rattle.block.specs.Entry.{Entry, entry, noEntry}
+use Rattle.store.specs.Entries.{findIn, nextIn, previousIn, hasRoom, putStore, deleteStore}
+use Rattle.store.specs.declared.Found.{Found}
+use Rattle.store.specs.declared.Found.the-variants.{At, Gap}
+use Rattle.store.specs.declared.Place.{Place}
+use Rattle.store.specs.declared.Place.the-variants.{There, Nothing}
+use Rattle.protocol.specs.declared.Operation.{Operation}
+use Rattle.protocol.specs.declared.Operation.the-variants.{Noop, Get, GetVersion, GetNext, GetPrevious, GetKeyRange, Put, Delete, FlushAllData, Setup, Security}
+use Rattle.protocol.specs.declared.Asked.{Asked}
+use Rattle.protocol.specs.declared.Asked.the-variants.{Request, NotBuilt}
+use Rattle.protocol.specs.State.{State, table, entries, withStore, withDevice, accepted}
+use Rattle.protocol.specs.Command.{Header, KeyValue, Range, Scope, Acl, Body, Command, orElse, mapL}
+use Rattle.protocol.specs.Operation.{askedBy}
+
+-- "Body only on success": nothing, a keyValue with key, version, tag and algorithm, or a range with its keys
+pub data ReplyBody : Type 0 where
+  bare : ReplyBody
+  keyValue : List ℕ → List ℕ → List ℕ → ℕ → ReplyBody
+  range : List (List ℕ) → ReplyBody
+
+-- what comes of a request: the status code, the body and the value part of the reply, and what is lent afterwards
+pub record Result : Type 0 where
+  pub code : ℕ
+  pub body : ReplyBody
+  pub value : List ℕ
+  pub state : State
+
+abbrev pub fails : State → ℕ → Result
+fails s code = record { code = code; body = bare; value = []; state = s }
+
+-- SUCCESS (1)
+abbrev pub succeeds : State → ReplyBody → List ℕ → Result
+succeeds s b v = record { code = 1; body = b; value = v; state = s }
+
+-- ---- step 4: "Header, connectionID and sequence present: else HEADER_REQUIRED (6)"
+
+abbrev pub bothThere : State → Header → Option ℕ → Option ℕ → (Header → ℕ → ℕ → Result) → Result
+bothThere s h (some c) (some q) next = next h c q
+bothThere s h (some c) none next = fails s 6
+bothThere s h none q next = fails s 6
+
+abbrev pub step4 : State → Option Header → (Header → ℕ → ℕ → Result) → Result
+step4 s none next = fails s 6
+step4 s (some h) next = bothThere s h (h .connectionID) (h .sequence) next
+
+-- ---- step 5: "clusterVersion equals the device's: else VERSION_FAILURE (4)"
+
+abbrev pub step5 : State → Header → Result → Result
+step5 s h next = choose (eqb (h .clusterVersion) (table s .clusterVersion)) next (fails s 4)
+
+-- ---- step 6: "connectionID equals the connection's, and sequence is above the last accepted: else 16"
+
+-- the order of 64-bit two's complement words: that of the numbers 2^63 higher
+unfoldable pub above : ℕ → ℕ → Bool
+above a b = ltb ((b + 2 ^ 63) % 2 ^ 64) ((a + 2 ^ 63) % 2 ^ 64)
+
+abbrev pub aboveLast : ℕ → Option ℕ → Bool
+aboveLast q none = true
+aboveLast q (some l) = above q l
+
+abbrev pub step6 : State → ℕ → ℕ → Result → Result
+step6 s c q next = choose (both (eqb c (s .connection .number)) (aboveLast q (s .connection .last))) next (fails s 16)
+
+-- ---- step 7: "messageType is a request built here: else 16"
+
+abbrev pub step7 : State → Asked → (Operation → Result) → Result
+step7 s (Request o) next = next o
+step7 s NotBuilt next = fails s 16
+
+-- ---- step 8: "Its body part is present (NOOP and FLUSHALLDATA need none) and well formed: else 16"
+
+abbrev pub isEmpty : List ℕ → Bool
+isEmpty [] = true
+isEmpty (x ∷ xs) = false
+
+-- a part that must be there, and its rule
+abbrev pub present : {A : Type 0} → (A → Bool) → Option A → Bool
+present f none = false
+present f (some a) = f a
+
+-- "Key 1 to 64, versions at most 16, tag at most 32"
+unfoldable pub keyValueGood : KeyValue → Bool
+keyValueGood k =
+    both (within 1 64 (length (k .key))) (both (leb (length (k .newVersion)) 16) (both (leb (length (k .dbVersion)) 16) (leb (length (k .tag)) 32)))
+
+-- "metadataOnly not true on PUT or DELETE"
+abbrev pub changeGood : KeyValue → Bool
+changeGood k = both (keyValueGood k) (not (k .metadataOnly))
+
+-- "Range keys present, 0 to 64; maxReturned 0 to 32": a negative number is a word above 32
+unfoldable pub rangeGood : Range → Bool
+rangeGood r =
+    both (present (λ k. leb (length k) 64) (r .startKey)) (both (present (λ k. leb (length k) 64) (r .endKey)) (leb (r .maxReturned) 32))
+
+-- the table that a SECURITY asks for
+abbrev pub wantedScope : Scope → access.Scope
+wantedScope s = record { offset = s .offset; value = s .value; permissions = maskOf (s .permissions); tlsRequired = s .tlsRequired }
+
+abbrev pub wantedAcl : Acl → access.Acl
+wantedAcl a = record { identity = orElse 0 (a .identity); key = a .key; scopes = mapL wantedScope (a .scopes) }
+
+abbrev pub wanted : ℕ → List Acl → access.Table
+wanted version acls = record { clusterVersion = version; acls = mapL wantedAcl acls }
+
+-- "each with 1 to 9 permissions among 0-5, 7, 8, 9"
+unfoldable pub permissionsGood : Scope → Bool
+permissionsGood s = both (within 1 9 (length (s .permissions))) (all named (s .permissions))
+
+-- "identities present", and the permissions of each scope
+unfoldable pub aclRead : Acl → Bool
+aclRead a = both (isSome (a .identity)) (all permissionsGood (a .scopes))
+
+-- "ACL rules": these, and every rule that the table of a device record obeys. A negative offset is a word above 64
+unfoldable pub securityGood : List Acl → Bool
+securityGood acls = both (all aclRead acls) (tableGood (wanted 0 acls))
+
+-- "Then an hmacAlgorithm that is present and not 1 gives NO_SUCH_HMAC_ALGORITHM (15)"
+unfoldable pub algorithmsGood : List Acl → Bool
+algorithmsGood acls = all (λ a. eqb (a .hmacAlgorithm) 1) acls
+
+-- the code where a rule is broken, else 0
+abbrev pub broken : Bool → ℕ
+broken good = choose good 0 16
+
+-- what is wrong with the part, in this order; "value part at most 384 on PUT and empty elsewhere"
+abbrev pub fault : Operation → Body → List ℕ → ℕ
+fault Noop b v = broken (isEmpty v)
+fault FlushAllData b v = broken (isEmpty v)
+fault Get b v = broken (both (isEmpty v) (present keyValueGood (b .keyValue)))
+fault GetVersion b v = broken (both (isEmpty v) (present keyValueGood (b .keyValue)))
+fault GetNext b v = broken (both (isEmpty v) (present keyValueGood (b .keyValue)))
+fault GetPrevious b v = broken (both (isEmpty v) (present keyValueGood (b .keyValue)))
+fault Put b v = broken (both (leb (length v) 384) (present changeGood (b .keyValue)))
+fault Delete b v = broken (both (isEmpty v) (present changeGood (b .keyValue)))
+fault GetKeyRange b v = broken (both (isEmpty v) (present rangeGood (b .range)))
+fault Setup b v = broken (both (isEmpty v) (isSome (b .setup)))
+fault Security b v = choose (both (isEmpty v) (present securityGood (b .security))) (choose (present algorithmsGood (b .security)) 0 15) 16
+
+abbrev pub step8 : State → Operation → Body → List ℕ → Result → Result
+step8 s o b v next = choose (eqb (fault o b v) 0) next (fails s (fault o b v))
+
+-- ---- step 9: "Permission: else NOT_AUTHORIZED (3)", by "Who may"
+
+abbrev pub noKeyValue : KeyValue
+noKeyValue = record { newVersion = []; key = []; dbVersion = []; tag = []; algorithm = 0; metadataOnly = false; force = false }
+
+abbrev pub noRange : Range
+noRange = record { startKey = none; endKey = none; startInclusive = false; endInclusive = false; maxReturned = 0; reverse = false }
+
+-- the parts of a body that is well formed for the operation
+abbrev pub keyValueIn : Body → KeyValue
+keyValueIn b = orElse noKeyValue (b .keyValue)
+
+abbrev pub rangeIn : Body → Range
+rangeIn b = orElse noRange (b .range)
+
+abbrev pub rangePermitted : access.Acl → Bool → Range → Bool
+rangePermitted a protected r = permitsRange a protected (orElse [] (r .startKey)) (orElse [] (r .endKey))
+
+-- "READ 0: GET, GETVERSION, GETNEXT, GETPREVIOUS. WRITE 1: PUT. DELETE 2: DELETE. RANGE 3: GETKEYRANGE. SETUP 4, SECURITY 8 likewise.
+-- NOOP and FLUSHALLDATA need none"
+abbrev pub permitted : access.Acl → Bool → Operation → Body → Bool
+permitted a p Noop b = true
+permitted a p FlushAllData b = true
+permitted a p Get b = permits a p 0 (keyValueIn b .key)
+permitted a p GetVersion b = permits a p 0 (keyValueIn b .key)
+permitted a p GetNext b = permits a p 0 (keyValueIn b .key)
+permitted a p GetPrevious b = permits a p 0 (keyValueIn b .key)
+permitted a p Put b = permits a p 1 (keyValueIn b .key)
+permitted a p Delete b = permits a p 2 (keyValueIn b .key)
+permitted a p GetKeyRange b = rangePermitted a p (rangeIn b)
+permitted a p Setup b = permitsAny a p 4
+permitted a p Security b = permitsAny a p 8
+
+abbrev pub step9 : State → access.Acl → Operation → Body → Result → Result
+step9 s a o b next = choose (permitted a (s .connection .protected) o b) next (fails s 3)
+
+-- ---- step 10: "The operation", by "What each does"
+
+-- the entry under a key; at a place
+abbrev pub entryAt : State → Found → Option Entry
+entryAt s (At i) = some (getD (entries s) i noEntry)
+entryAt s (Gap i) = none
+
+abbrev pub entryThere : State → Place → Option Entry
+entryThere s (There i) = some (getD (entries s) i noEntry)
+entryThere s Nothing = none
+
+abbrev pub entryOf : State → List ℕ → Option Entry
+entryOf s k = entryAt s (findIn k (entries s))
+
+-- "keyValue 3, 4, 5, 6, …, and the value part unless metadataOnly"
+abbrev pub shown : State → Bool → Option Entry → Result
+shown s metadataOnly none = fails s 7
+shown s metadataOnly (some e) =
+    succeeds s (keyValue (e .key) (e .version) (e .tag) (e .algorithm)) (choose metadataOnly [] (e .value))
+
+-- "GETVERSION keyValue 4"
+abbrev pub versionShown : State → Option Entry → Result
+versionShown s none = fails s 7
+versionShown s (some e) = succeeds s (keyValue [] (e .version) [] 0) []
+
+-- "dbVersion must equal the stored version, or be empty for a new key"; "without force"
+abbrev pub versionOf : Option Entry → List ℕ
+versionOf none = []
+versionOf (some e) = e .version
+
+abbrev pub versionRight : KeyValue → Option Entry → Bool
+versionRight k o = either (k .force) (sameBytes (k .dbVersion) (versionOf o))
+
+-- "Stores newVersion, tag, algorithm, value"
+abbrev pub newEntry : KeyValue → List ℕ → Entry
+newEntry k v = entry (k .key) (k .newVersion) (k .tag) v (k .algorithm)
+
+-- "PUT and DELETE an empty keyValue"
+abbrev pub changed : State → List ℕ → Result
+changed s l = succeeds (withStore s l) (keyValue [] [] [] 0) []
+
+-- "else VERSION_MISMATCH (8). A new key that passes this, with no blank block: NO_SPACE (14)"
+abbrev pub put : State → KeyValue → List ℕ → Result
+put s k v =
+    choose (versionRight k (entryOf s (k .key)))
+    (choose (hasRoom (s .store) (newEntry k v)) (changed s (putStore (s .store) (newEntry k v))) (fails s 14))
+    (fails s 8)
+
+-- "missing key is NOT_FOUND (7), or SUCCESS with force; version as for PUT"
+abbrev pub deleteBy : State → KeyValue → Option Entry → Result
+deleteBy s k none = choose (k .force) (changed s (s .store)) (fails s 7)
+deleteBy s k (some e) = choose (versionRight k (some e)) (changed s (deleteStore (s .store) (k .key))) (fails s 8)
+
+-- "keys above start (or equal, if inclusive) and below end (likewise)"
+unfoldable pub inRange : Range → List ℕ → Bool
+inRange r k =
+    both (either (isLess (cmp (orElse [] (r .startKey)) k)) (both (r .startInclusive) (isEqual (cmp (orElse [] (r .startKey)) k))))
+    (either (isLess (cmp k (orElse [] (r .endKey)))) (both (r .endInclusive) (isEqual (cmp k (orElse [] (r .endKey))))))
+
+unfoldable pub keysIn : Range → List Entry → List (List ℕ)
+keysIn r [] = []
+keysIn r (e ∷ es) = choose (inRange r (e .key)) (e .key ∷ keysIn r es) (keysIn r es)
+
+-- "ascending, or descending with reverse, the first maxReturned"
+unfoldable pub keysOf : Range → List Entry → List (List ℕ)
+keysOf r es = take (r .maxReturned) (choose (r .reverse) (reverse (keysIn r es)) (keysIn r es))
+
+-- "SETUP sets the cluster version if given"
+abbrev pub setUp : State → Option ℕ → Result
+setUp s none = succeeds s bare []
+setUp s (some v) = succeeds (withDevice s (withClusterVersion (s .device) v)) bare []
+
+-- "SECURITY replaces the whole table"; the cluster version stays
+abbrev pub secure : State → List Acl → Result
+secure s acls = succeeds (withDevice s (tableBytes (wanted (table s .clusterVersion) acls))) bare []
+
+abbrev pub step10 : State → Operation → Body → List ℕ → Result
+step10 s Noop b v = succeeds s bare []
+step10 s FlushAllData b v = succeeds s bare []
+step10 s Get b v = shown s (keyValueIn b .metadataOnly) (entryOf s (keyValueIn b .key))
+step10 s GetVersion b v = versionShown s (entryOf s (keyValueIn b .key))
+step10 s GetNext b v = shown s (keyValueIn b .metadataOnly) (entryThere s (nextIn (keyValueIn b .key) (entries s)))
+step10 s GetPrevious b v = shown s (keyValueIn b .metadataOnly) (entryThere s (previousIn (keyValueIn b .key) (entries s)))
+step10 s Put b v = put s (keyValueIn b) v
+step10 s Delete b v = deleteBy s (keyValueIn b) (entryOf s (keyValueIn b .key))
+step10 s GetKeyRange b v = succeeds s (range (keysOf (rangeIn b) (entries s))) []
+step10 s Setup b v = setUp s (orElse none (b .setup))
+step10 s Security b v = secure s (orElse [] (b .security))
+
+-- ---- steps 4 to 10, for the ACL of the identity, the command and the value part
+
+unfoldable pub judge : State → access.Acl → Command → List ℕ → Result
+judge s a c v =
+    step4 s (c .header) (λ h connection q.
+    step5 s h
+    (step6 s connection q
+    (step7 (accepted s q) (askedBy (h .messageType)) (λ o.
+    step8 (accepted s q) o (c .body) v
+    (step9 (accepted s q) a o (c .body)
+    (step10 (accepted s q) o (c .body) v))))))

@@ -1,0 +1,185 @@
+-- Demand 2: "A reply read back by the field rules for replies gives that answer and nothing else", for every reply that the box gives.
+use Prim.Native.Nat.{ℕ, _+_, _^_, _<_}
+use native.Mathlib.Omega.{arith}
+use mathlib.Core.Path.{_≡_, refl, subst}
+use mathlib.Core.Bool.{Bool, true, false}
+use mathlib.Core.List.{List}
+use mathlib.Core.Option.{Option, none, some}
+use lib.ListN.{length}
+use lib.Dec.{ltb}
+use Rattle.wire.specs.Reader.{choose}
+use Rattle.tree.specs.Tree.{mapO, thenO, Tree, listed, intAt, rawAt, subAt}
+use Rattle.tree.specs.declared.Kind.the-variants.{Message, Command as CommandKind}
+use Rattle.encoding.specs.Basics.{never}
+use Rattle.access.specs.Table as access
+use Rattle.access.specs.Table.{tableGood}
+use Rattle.store.specs.Store.{storeGood}
+use Rattle.signature.specs.Hmac.{hmac}
+use Rattle.protocol.specs.declared.Operation.the-variants.{Noop, Get, GetVersion, GetNext, GetPrevious, GetKeyRange, Put, Delete, FlushAllData, Setup, Security}
+use Rattle.protocol.specs.declared.Asked.{Asked}
+use Rattle.protocol.specs.declared.Asked.the-variants.{Request, NotBuilt}
+use Rattle.protocol.specs.Frame.{Framing, more, closes, whole, frameOf}
+use Rattle.protocol.specs.State.{State, table}
+use Rattle.protocol.specs.Command.{headerOf, commandOf}
+use Rattle.protocol.specs.Operation.{askedBy, replyType}
+use Rattle.protocol.specs.Judge.{judge}
+use Rattle.protocol.specs.Reading.{orEmpty, sameBytes, Envelope, envelope, sealed, isOne, envelopeOf, readMessage, Reading, closing, undecodable, read, decoded, verified, opened, readingBy}
+use Rattle.protocol.specs.Answer.{Outcome, answered, unlessRefused, reading, serve, respond, taking, answer}
+use Rattle.protocol.specs.Box.{box, answers, aclOf, sequenceOf, typeOf, close, judged, decide}
+use Rattle.protocol.specs.Words.{Words, listed-words, int-word-at, sub-words-at}
+use Rattle.protocol.specs.Results.{judge-sent}
+use Rattle.protocol.specs.ReplyBack.{CodeNamed, known-code, TypeFits, known-type, bares, Says, signed-says, closing-says}
+use Rattle.protocol.specs.Told.{Told, told, closed, toldBy, toldTo, toldOf}
+
+-- ---- what steps 1 to 3 read: named codes, and words
+
+abbrev pub Readable : Reading → Type 0
+Readable (closing code) = CodeNamed code
+Readable (undecodable i key) = i < 2 ^ 64
+Readable (read i key t) = (i < 2 ^ 64) × Words t
+
+identity-word : (t : Tree) {i : ℕ} {sig c : List ℕ} → Words t → envelopeOf t ≡ some (envelope i sig c) → i < 2 ^ 64
+identity-word t {i} {sig} {c} w e = go (isOne (intAt 4 t)) (subAt 5 t) (rawAt 7 t) (λ u q. sub-words-at 5 t w q) e
+  where
+    of : (o : Option ℕ) (x y : List ℕ) → ((j : ℕ) → o ≡ some j → j < 2 ^ 64) → thenO o (λ j. some (envelope j x y)) ≡ some (envelope i sig c) → i < 2 ^ 64
+    of none x y f q = never (cc)
+    of (some j) x y f q = let z : j ≡ i = cc in omega (arith, f j refl)
+
+    go : (b : Bool) (o : Option Tree) (p : Option (List ℕ)) → ((u : Tree) → o ≡ some u → Words u) → choose b (sealed o p) none ≡ some (envelope i sig c) → i < 2 ^ 64
+    go false o p f q = never (cc)
+    go true none p f q = never (cc)
+    go true (some u) none f q = never (cc)
+    go true (some u) (some y) f q = of (intAt 1 u) (orEmpty (rawAt 2 u)) y (λ j z. int-word-at 1 u (f u refl) z) q
+
+message-word : (m : List ℕ) {i : ℕ} {sig c : List ℕ} → readMessage m ≡ some (envelope i sig c) → i < 2 ^ 64
+unfolding readMessage
+message-word m {i} {sig} {c} e = go (listed Message m) (λ t q. listed-words Message m q) e
+  where
+    go : (o : Option Tree) → ((t : Tree) → o ≡ some t → Words t) → thenO o (λ t. envelopeOf t) ≡ some (envelope i sig c) → i < 2 ^ 64
+    go none f q = never (cc)
+    go (some t) f q = identity-word t (f t refl) q
+
+decoded-readable : (i : ℕ) (key : List ℕ) (o : Option Tree) → i < 2 ^ 64 → ((t : Tree) → o ≡ some t → Words t) → Readable (decoded i key o)
+decoded-readable i key none h f = h
+decoded-readable i key (some t) h f = (h, f t refl)
+
+choose-readable : (b : Bool) (r : Reading) → Readable r → Readable (choose b r (closing 2))
+choose-readable true r h = h
+choose-readable false r h = known-code refl
+
+module _ (keyOf : ℕ → Option (List ℕ)) where
+  verified-readable : (i : ℕ) (sig c : List ℕ) (o : Option (List ℕ)) → i < 2 ^ 64 → Readable (verified hmac keyOf i sig c o)
+  verified-readable i sig c none h = known-code refl
+  verified-readable i sig c (some key) h =
+      choose-readable (sameBytes sig (hmac key c)) (decoded i key (listed CommandKind c)) (decoded-readable i key (listed CommandKind c) h (λ t q. listed-words CommandKind c q))
+
+  opened-readable : (o : Option Envelope) → ((i : ℕ) (sig c : List ℕ) → o ≡ some (envelope i sig c) → i < 2 ^ 64) → Readable (opened hmac keyOf o)
+  opened-readable none f = known-code refl
+  opened-readable (some (envelope i sig c)) f = verified-readable i sig c (keyOf i) (f i sig c refl)
+
+  pub readable : (m : List ℕ) → Readable (readingBy hmac keyOf m)
+  unfolding readingBy
+  readable m = opened-readable (readMessage m) (λ i sig c e. message-word m e)
+
+-- ---- the parts of a reply
+
+type-fits : (a : Asked) → TypeFits (replyType a)
+type-fits (Request Noop) = known-type refl
+type-fits (Request Get) = known-type refl
+type-fits (Request GetVersion) = known-type refl
+type-fits (Request GetNext) = known-type refl
+type-fits (Request GetPrevious) = known-type refl
+type-fits (Request GetKeyRange) = known-type refl
+type-fits (Request Put) = known-type refl
+type-fits (Request Delete) = known-type refl
+type-fits (Request FlushAllData) = known-type refl
+type-fits (Request Setup) = known-type refl
+type-fits (Request Security) = known-type refl
+type-fits NotBuilt = known-type refl
+
+sequence-word : (t : Tree) {q : ℕ} → Words t → sequenceOf (commandOf t .header) ≡ some q → q < 2 ^ 64
+sequence-word t {q} w e = go (subAt 1 t) (λ u z. sub-words-at 1 t w z) e
+  where
+    go : (o : Option Tree) → ((u : Tree) → o ≡ some u → Words u) → sequenceOf (mapO headerOf o) ≡ some q → q < 2 ^ 64
+    go none f z = never (cc)
+    go (some u) f z = int-word-at 4 u (f u refl) z
+
+-- ---- every reply
+
+-- reply bytes that say what is told
+abbrev pub SaysTold : List ℕ → Told → Type 0
+SaysTold r t = Says r (t .message) (t .command) (t .value)
+
+-- what is told to an input, and that the reply says it
+pub record Replied (s : State) (f : Framing) (r : List ℕ) : Type 0 where
+  pub told : Told
+  pub is : toldOf s f ≡ some told
+  pub says : SaysTold r told
+
+-- an answered call says what is told
+abbrev Answers : Outcome State → Told → Type 0
+Answers o t = (r : List ℕ) (s : State) (n : ℕ) → o ≡ answered r s n → SaysTold r t
+
+module _ (s : State) (word : s .connection .number < 2 ^ 64) (good : storeGood (s .store) ≡ true) where
+  closes-says : (n code : ℕ) → CodeNamed code → Answers (taking n (close s code)) (closed (s .connection .number) code)
+  closes-says n code h r s' k e = subst (λ x. SaysTold x (closed (s .connection .number) code)) (cc) (closing-says (s .connection .number) code word h)
+
+  judged-says : (n i : ℕ) (key : List ℕ) (t : Tree) (v : List ℕ) (o : Option access.Acl) → i < 2 ^ 64 → Words t
+      → Answers (taking n (judged s i key (commandOf t) v o)) (toldBy s i key (commandOf t) v o)
+  judged-says n i key t v none h w r s' k e = closes-says n 2 (known-code refl) r s' k e
+  judged-says n i key t v (some a) h w r s' k e =
+      let j = judge-sent s a (commandOf t) v good in
+      subst (λ x. SaysTold x (told s i key (commandOf t) (judge s a (commandOf t) v))) (cc)
+      (signed-says (record {
+        identity-word = h;
+        connection-word = word;
+        ack-word = λ q z. sequence-word t w z;
+        type-fits = type-fits (askedBy (typeOf (commandOf t .header)));
+        body-good = j .body;
+        code-named = j .code;
+        value-short = j .value;
+      }) key)
+
+  respond-says : (n : ℕ) (v : List ℕ) (r : Reading) → Readable r → Answers (taking n (respond box s v r)) (toldTo s v r)
+  unfolding decide
+  respond-says n v (closing code) h r s' k e = closes-says n code h r s' k e
+  respond-says n v (undecodable i key) h r s' k e =
+      subst (λ x. SaysTold x (toldTo s v (undecodable i key))) (cc)
+      (signed-says (record {
+        identity-word = h;
+        connection-word = word;
+        ack-word = λ q z. never (cc);
+        type-fits = type-fits NotBuilt;
+        body-good = bares;
+        code-named = known-code refl;
+        value-short = omega arith;
+      }) key)
+  respond-says n v (read i key t) h r s' k e = judged-says n i key t v (aclOf s i) (h .0) (h .1) r s' k e
+
+  serve-says : (n : ℕ) (f : Framing) {r : List ℕ} {s' : State} {k : ℕ} → serve box s n f ≡ answered r s' k → Replied s f r
+  serve-says n more e = never (cc)
+  serve-says n closes {r} {s'} {k} e = record { told = closed (s .connection .number) 20; is = refl; says = closes-says n 20 (known-code refl) r s' k e }
+  serve-says n (whole m v rest) {r} {s'} {k} e =
+      record {
+        told = toldTo s v (reading box s m);
+        is = refl;
+        says = respond-says (9 + length m + length v) v (reading box s m) (readable (box .keyOf s) m) r s' k e;
+      }
+
+-- an answered call passed the refusals
+passed : (t1 t2 t3 t4 : Bool) (o : Outcome State) {r : List ℕ} {s' : State} {n : ℕ} → unlessRefused t1 t2 t3 t4 o ≡ answered r s' n
+    → (t2 ≡ true) × (o ≡ answered r s' n)
+passed true t2 t3 t4 o e = never (cc)
+passed false false t3 t4 o e = never (cc)
+passed false true false t4 o e = never (cc)
+passed false true true true o e = never (cc)
+passed false true true false o e = (refl, e)
+
+-- EVERY REPLY: in any lent state whose connection number is a 64-bit word, the reply of an answered call is one whole frame, and its message, its command
+-- and its value part are exactly those that the box tells
+pub reply-says : (s : State) (out : ℕ) (xs r : List ℕ) (s' : State) (n : ℕ) → s .connection .number < 2 ^ 64 → answers s out xs ≡ answered r s' n
+    → Replied s (frameOf xs) r
+unfolding answer
+reply-says s out xs r s' n word e =
+    let p = passed (ltb out 4096) (storeGood (s .store)) (tableGood (table s)) (s .connection .closed) (serve box s (length xs) (frameOf xs)) e in
+    serve-says s word (p .0) (length xs) (frameOf xs) (p .1)

@@ -1,0 +1,65 @@
+-- Steps 1 to 3 of document 01: what a message is read as.
+use Prim.Native.Nat.{ℕ}
+use mathlib.Core.List.{List, [], _∷_}
+use mathlib.Core.Option.{Option, none, some}
+use mathlib.Core.Bool.{Bool, true, false}
+use lib.Dec.{eqb}
+use Rattle.wire.specs.Reader.{choose}
+use Rattle.tree.specs.Tree.{Tree, thenO, intAt, rawAt, subAt, listed}
+use Rattle.tree.specs.declared.Kind.the-variants.{Message, Command}
+
+-- absent bytes are empty
+abbrev pub orEmpty : Option (List ℕ) → List ℕ
+orEmpty none = []
+orEmpty (some b) = b
+
+abbrev pub sameBytes : List ℕ → List ℕ → Bool
+sameBytes [] [] = true
+sameBytes [] (b ∷ y) = false
+sameBytes (a ∷ x) [] = false
+sameBytes (a ∷ x) (b ∷ y) = choose (eqb a b) (sameBytes x y) false
+
+-- step 1: the identity, the hmac and the commandBytes
+pub data Envelope : Type 0 where
+  envelope : ℕ → List ℕ → List ℕ → Envelope
+
+-- of an HMACauth and the commandBytes, if they are there
+abbrev pub sealed : Option Tree → Option (List ℕ) → Option Envelope
+sealed none c = none
+sealed (some u) none = none
+sealed (some u) (some c) = thenO (intAt 1 u) (λ i. some (envelope i (orEmpty (rawAt 2 u)) c))
+
+-- authType is 1
+abbrev pub isOne : Option ℕ → Bool
+isOne none = false
+isOne (some a) = eqb a 1
+
+abbrev pub envelopeOf : Tree → Option Envelope
+envelopeOf t = choose (isOne (intAt 4 t)) (sealed (subAt 5 t) (rawAt 7 t)) none
+
+unfoldable pub readMessage : List ℕ → Option Envelope
+readMessage m = thenO (listed Message m) (λ t. envelopeOf t)
+
+pub data Reading : Type 0 where
+  -- steps 1 and 2: the code
+  closing : ℕ → Reading
+  -- step 3: the identity and the key that verified
+  undecodable : ℕ → List ℕ → Reading
+  -- the same and the command
+  read : ℕ → List ℕ → Tree → Reading
+
+abbrev pub decoded : ℕ → List ℕ → Option Tree → Reading
+decoded i key none = undecodable i key
+decoded i key (some t) = read i key t
+
+module _ (hmac : List ℕ → List ℕ → List ℕ) (keyOf : ℕ → Option (List ℕ)) where
+  abbrev pub verified : ℕ → List ℕ → List ℕ → Option (List ℕ) → Reading
+  verified i sig c none = closing 2
+  verified i sig c (some key) = choose (sameBytes sig (hmac key c)) (decoded i key (listed Command c)) (closing 2)
+
+  abbrev pub opened : Option Envelope → Reading
+  opened none = closing 20
+  opened (some (envelope i sig c)) = verified i sig c (keyOf i)
+
+  unfoldable pub readingBy : List ℕ → Reading
+  readingBy m = opened (readMessage m)

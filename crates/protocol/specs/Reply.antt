@@ -1,0 +1,45 @@
+-- Document 01, "Replies": what a reply says, as trees, and its bytes: "Fields ascending, shortest varints."
+use mathlib.Core.List.{List, []}
+use mathlib.Core.Option.{Option}
+use Prim.Native.Nat.{ℕ}
+use Rattle.tree.specs.Tree.{Tree, done, int, raw, sub}
+use Rattle.encoding.specs.Encode.{encode, intO, intIf, rawIf, each}
+use Rattle.signature.specs.Hmac.{hmac}
+use Rattle.protocol.specs.Frame.{frame}
+use Rattle.protocol.specs.Judge.{ReplyBody, bare, keyValue, range}
+
+-- "header 3 (the connection's number), 6, 7"; "Field 6 is the request's sequence, omitted if the command doesn't decode or has none"
+abbrev pub headerTree : ℕ → Option ℕ → ℕ → Tree
+headerTree connection ack type = int 3 connection (intO 6 ack (int 7 type done))
+
+-- "keyValue 3, 4, 5, 6, empty ones omitted"; "The keyValue or range itself is there even when empty"
+abbrev pub bodyTree : ReplyBody → Tree → Tree
+bodyTree bare t = t
+bodyTree (keyValue k v g a) t = sub 2 (sub 1 (rawIf 3 k (rawIf 4 v (rawIf 5 g (intIf 6 a done)))) done) t
+bodyTree (range ks) t = sub 2 (sub 2 (each 8 ks done) done) t
+
+-- "status with SUCCESS (1) or the code in field 1"
+abbrev pub statusTree : ℕ → Tree
+statusTree code = sub 3 (int 1 code done) done
+
+-- "Command: header 3, 6, 7; body; status"
+abbrev pub commandTree : ℕ → Option ℕ → ℕ → ReplyBody → ℕ → Tree
+commandTree connection ack type body code = sub 1 (headerTree connection ack type) (bodyTree body (statusTree code))
+
+-- "Message 4 = 1, HMACauth (the request's identity; hmac under the key that verified the request), 7"
+abbrev pub signedTree : ℕ → List ℕ → List ℕ → Tree
+signedTree identity key command = int 4 1 (sub 5 (int 1 identity (raw 2 (hmac key command) done)) (raw 7 command done))
+
+-- "Closing replies: Message 4 = 3 and 7; header 3 and status only"
+abbrev pub closingCommand : ℕ → ℕ → Tree
+closingCommand connection code = sub 1 (int 3 connection done) (statusTree code)
+
+abbrev pub closingTree : List ℕ → Tree
+closingTree command = int 4 3 (raw 7 command done)
+
+-- whole replies, framed, with the value part
+unfoldable pub signedReply : ℕ → List ℕ → Tree → List ℕ → List ℕ
+signedReply identity key command value = frame (encode (signedTree identity key (encode command))) value
+
+unfoldable pub closingReply : ℕ → ℕ → List ℕ
+closingReply connection code = frame (encode (closingTree (encode (closingCommand connection code)))) []

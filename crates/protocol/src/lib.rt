@@ -1,0 +1,20 @@
+// The operations that are built, document 01, "What the box does".
+pub enum Operation {
+    Noop,
+    Get,
+    GetVersion,
+    GetNext,
+    GetPrevious,
+    GetKeyRange,
+    Put,
+    Delete,
+    FlushAllData,
+    Setup,
+    Security,
+}
+
+// What a messageType asks for, or that no built request has it.
+pub enum Asked {
+    Request(Operation),
+    NotBuilt,
+}

@@ -1,0 +1,78 @@
+-- What the writing of a run of keys uses.
+use mathlib.Core.Path.{_≡_, refl, sym, ap, _∙_}
+use mathlib.Core.Bool.{Bool, true, false}
+use mathlib.Core.List.{List, [], _∷_}
+use Prim.Native.Nat.{ℕ, zero, suc, _+_, _-_, _≤_, _<_}
+use native.Mathlib.Nat.{not-suc-le-zero, le-of-suc-le-suc}
+use native.Mathlib.Omega.{arith}
+use lib.ListN.{length, getD, take, drop}
+use lib.Seq.{drop-length}
+use Rattle.tree.specs.Tree.{done}
+use Rattle.encoding.specs.Encode.{head, lenField, encode, each}
+use Rattle.writers.specs.Pushed.{Pushed}
+use Rattle.writers.specs.PushedLaws.{again, pushed-none, pushed-sub}
+use Rattle.writers.specs.TreeParts.{sub-last, each-pushed}
+use Rattle.block.specs.Entry.{Entry}
+use Rattle.store.specs.declared.Parts.{Parts}
+use Rattle.store.specs.Store.{entriesOf, AllFit, Good}
+use Rattle.store.specs.Entries.{EntryAt}
+use Rattle.protocol.specs.Judge.{range}
+use Rattle.replies.specs.Parts.{bodyBytes}
+use Rattle.range_replies.specs.Keys.{keyAt, onward, keysFrom}
+
+pub onward-next : (b : Bool) (first i : ℕ) → onward b (onward b first 1) i ≡ onward b first (suc i)
+onward-next false first i = omega arith
+onward-next true first i = omega arith
+
+pub onward-none : (b : Bool) (first : ℕ) → onward b first 0 ≡ first
+onward-none false first = omega arith
+onward-none true first = omega arith
+
+pub keys-length : (b : Bool) (first n : ℕ) (es : List Entry) → length (keysFrom b first n es) ≡ n
+unfolding keysFrom
+keys-length b first zero es = refl
+keys-length b first (suc n) es = ap suc (keys-length b (onward b first 1) n es)
+
+pub keys-at : (b : Bool) (first n : ℕ) (es : List Entry) (i : ℕ) → i < n → getD (keysFrom b first n es) i [] ≡ keyAt es (onward b first i)
+unfolding keysFrom
+keys-at b first zero es i h = absurd (not-suc-le-zero h)
+keys-at b first (suc n) es zero h = ap (keyAt es) (sym (onward-none b first))
+keys-at b first (suc n) es (suc i) h = keys-at b (onward b first 1) n es i (le-of-suc-le-suc h) ∙ ap (keyAt es) (onward-next b first i)
+
+-- a key is at most 64 bytes
+fit-key : (es : List Entry) (i : ℕ) → AllFit es → length (keyAt es i) ≤ 64
+fit-key [] i fs = omega arith
+fit-key (e ∷ es) zero (AllFit.more f fs) = f .key-fits
+fit-key (e ∷ es) (suc i) (AllFit.more f fs) = fit-key es i fs
+
+-- the part of the store that holds the key at a place
+pub key-part : (l : List ℕ) (i : ℕ) (p : Parts) → EntryAt l i p → Good l
+    → take (p .key .start + p .key .len - p .key .start) (drop (p .key .start) l) ≡ keyAt (entriesOf l) i
+key-part l i p w g =
+    let e : p .key .start + p .key .len - p .key .start ≡ p .key .len = omega arith in
+    ap (λ k. take k (drop (p .key .start) l)) e ∙ ap (λ (x : Entry). x .key) (w .same g)
+
+pub key-short : (l : List ℕ) (i : ℕ) (p : Parts) → EntryAt l i p → Good l → length (take (p .key .start + p .key .len - p .key .start) (drop (p .key .start) l)) ≤ 64
+key-short l i p w g = let e = ap length (key-part l i p w g) in omega (arith, fit-key (entriesOf l) i (g .fit))
+
+-- the steps of writing a run from its last key to its first
+module _ {at : ℕ} {l : List ℕ} (b : Bool) (first n : ℕ) (es : List Entry) where
+  pub keys-none : at ≤ length l → Pushed at at (encode (each 8 (drop n (keysFrom b first n es)) done)) l l
+  unfolding encode each
+  keys-none h =
+      let d : drop n (keysFrom b first n es) ≡ [] = ap (λ k. drop k (keysFrom b first n es)) (sym (keys-length b first n es)) ∙ drop-length (keysFrom b first n es) in
+      again (ap (λ ks. encode (each 8 ks done)) (sym d)) (pushed-none at l h)
+
+  pub keys-more : {r p : ℕ} {m o : List ℕ} (i : ℕ) → 1 ≤ i → i ≤ n → Pushed r p (lenField 8 (keyAt es (onward b first (i - 1)))) m o
+      → Pushed p at (encode (each 8 (drop i (keysFrom b first n es)) done)) l m → Pushed r at (encode (each 8 (drop (i - 1) (keysFrom b first n es)) done)) l o
+  keys-more i h k q p =
+      each-pushed 8 (keysFrom b first n es) i done h (let z = keys-length b first n es in omega arith)
+      (again (ap (lenField 8) (sym (keys-at b first n es (i - 1) (omega arith)))) q) p
+
+  pub keys-all : {r i : ℕ} {m : List ℕ} → i ≡ 0 → Pushed r at (encode (each 8 (drop i (keysFrom b first n es)) done)) l m
+      → Pushed r at (encode (each 8 (keysFrom b first n es) done)) l m
+  keys-all e p = again (ap (λ k. encode (each 8 (drop k (keysFrom b first n es)) done)) e) p
+
+pub range-law : {r b a at : ℕ} {l m1 m2 n : List ℕ} (ks : List (List ℕ)) → Pushed r b (head 2 (at - b)) m2 n → Pushed b a (head 2 (at - a)) m1 m2
+    → Pushed a at (encode (each 8 ks done)) l m1 → Pushed r at (bodyBytes (range ks)) l n
+range-law ks p q w = pushed-sub 2 p (sub-last 2 (each 8 ks done) q w)

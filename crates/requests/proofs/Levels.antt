@@ -1,0 +1,100 @@
+-- One law for each level.
+use Prim.Native.Nat.{ℕ, _<_}
+use native.Mathlib.Omega.{arith}
+use mathlib.Core.Path.{_≡_, refl, sym, ap, _∙_}
+use mathlib.Core.List.{List}
+use mathlib.Core.Option.{Option, none, some}
+use mathlib.Core.Bool.{true, false}
+use Rattle.tree.specs.Rules.{ruleOf}
+use Rattle.tree.specs.Tree.{mapO, isSome, level, listed, Tree, subAt}
+use Rattle.fields.specs.Slots.{Tells, Sized}
+use Rattle.tree.specs.declared.Kind.{Kind}
+use Rattle.tree.specs.declared.Kind.the-variants as k
+use Rattle.tree.specs.declared.Form.the-variants.{Nested}
+use Rattle.tree.specs.declared.Rule.the-variants.{Single}
+use Rattle.fields.specs.declared.slots.Slots.{Slots}
+use Rattle.lookups.specs.Views.{orDone, Reads, treeOf, bytesAt, numView, noPart, Inside, Level, SlotInside, NumIs, PartIs, Sub}
+use Rattle.lookups.specs.LevelLaws.{tree-is}
+use Rattle.lookups.specs.declared.parts.Num.{Num}
+use Rattle.lookups.specs.declared.parts.Part.{Part}
+use Rattle.lookups.proofs.Slotted.{isPart, level-sized, part-ready, sub-view, nil-at, nil-reads}
+use Rattle.protocol.specs.Command.{orElse, noBody, headerOf, keyValueOf, rangeOf, setupOf, securityOf, bodyOf, commandOf}
+use Rattle.requests.specs.Views.{headerView, keyValueView, rangeView, bodyView, requestView}
+use Rattle.requests.specs.declared.Header.{Header}
+use Rattle.requests.specs.declared.KeyValue.{KeyValue}
+use Rattle.requests.specs.declared.Range.{Range}
+use Rattle.requests.specs.declared.Body.{Body}
+use Rattle.requests.specs.declared.Request.{Request}
+
+-- a level in a part: what its look-ups ask, and the message that one of them gives
+module _ (k : Kind) (s : List ℕ) (p : Part) (t : Slots) (h : Tells k (bytesAt s p) t (level k (bytesAt s p))) (y : Inside s p × Reads k (bytesAt s p)) where
+  pub level-at : Level k (bytesAt s p) t
+  level-at = record { tells = h; reads = y .1 }
+
+  pub num-at : (n : ℕ) → n < 16 → (n < 16) × Sized t
+  num-at n l = (l, level-sized k (bytesAt s p) t level-at)
+
+  pub part-at : (n : ℕ) → n < 16 → isPart (ruleOf k n) ≡ true → (n < 16) × Sized t × Inside s p × SlotInside (bytesAt s p) t n
+  part-at n l e = part-ready k s p t level-at (y .0) n l e
+
+  pub sub-at : (n : ℕ) (k' : Kind) → ruleOf k n ≡ Single (Nested k') → (r : Part) → PartIs s p t n r → Sub k' s r (subAt n (treeOf k (bytesAt s p)))
+  sub-at n k' q r e = e .message k k' level-at q
+
+  pub sub-reads : (n : ℕ) (k' : Kind) → ruleOf k n ≡ Single (Nested k') → (r : Part) → PartIs s p t n r → Inside s r × Reads k' (bytesAt s r)
+  sub-reads n k' q r e = (e .lies .inside, sub-at n k' q r e .reads)
+
+module _ (s : List ℕ) (p : Part) (t : Slots) where
+  pub header-law : Level k.Header (bytesAt s p) t → (a1 a3 a4 a7 : Num) → NumIs t 1 a1 → NumIs t 3 a3 → NumIs t 4 a4 → NumIs t 7 a7
+      → headerView (record { cluster = a1; connection = a3; sequence = a4; kind = a7 }) ≡ headerOf (treeOf k.Header (bytesAt s p))
+  header-law y a1 a3 a4 a7 e1 e3 e4 e7 =
+      let m = bytesAt s p in
+      rw (e1 k.Header m y refl, e3 k.Header m y refl, e4 k.Header m y refl, e7 k.Header m y refl) refl
+
+  pub key-value-law : Level k.KeyValue (bytesAt s p) t → (a2 a3 a4 a5 : Part) (a6 a7 a8 : Num)
+      → PartIs s p t 2 a2 → PartIs s p t 3 a3 → PartIs s p t 4 a4 → PartIs s p t 5 a5 → NumIs t 6 a6 → NumIs t 7 a7 → NumIs t 8 a8
+      → keyValueView s (record { version = a2; key = a3; expected = a4; tag = a5; algorithm = a6; metadata = a7; force = a8 }) ≡ keyValueOf (treeOf k.KeyValue (bytesAt s p))
+  key-value-law y a2 a3 a4 a5 a6 a7 a8 e2 e3 e4 e5 e6 e7 e8 =
+      let m = bytesAt s p in
+      rw (e2 .bytes k.KeyValue y refl, e3 .bytes k.KeyValue y refl, e4 .bytes k.KeyValue y refl, e5 .bytes k.KeyValue y refl, e6 k.KeyValue m y refl, e7 k.KeyValue m y refl, e8 k.KeyValue m y refl) refl
+
+  pub range-law : Level k.Range (bytesAt s p) t → (a1 a2 : Part) (a3 a4 a5 a6 : Num) → PartIs s p t 1 a1 → PartIs s p t 2 a2 → NumIs t 3 a3 → NumIs t 4 a4 → NumIs t 5 a5 → NumIs t 6 a6
+      → rangeView s (record { start = a1; end = a2; first = a3; last = a4; limit = a5; reverse = a6 }) ≡ rangeOf (treeOf k.Range (bytesAt s p))
+  range-law y a1 a2 a3 a4 a5 a6 e1 e2 e3 e4 e5 e6 =
+      let m = bytesAt s p in
+      rw (e1 .bytes k.Range y refl, e2 .bytes k.Range y refl, e3 k.Range m y refl, e4 k.Range m y refl, e5 k.Range m y refl, e6 k.Range m y refl) refl
+
+pub body-law : (s : List ℕ) (u : Tree) (a b c z : Part) (x : KeyValue) (y : Range) (w : Num)
+    → Sub k.KeyValue s a (subAt 1 u) → keyValueView s x ≡ keyValueOf (treeOf k.KeyValue (bytesAt s a))
+    → Sub k.Range s b (subAt 2 u) → rangeView s y ≡ rangeOf (treeOf k.Range (bytesAt s b))
+    → Sub k.Setup s c (subAt 3 u) → numView w ≡ setupOf (treeOf k.Setup (bytesAt s c))
+    → Sub k.Security s z (subAt 7 u)
+    → bodyView s (record { keyed = a .has; entry = x; ranged = b .has; range = y; changed = c .has; cluster = w; security = z }) ≡ bodyOf u
+body-law s u a b c z x y w p e q f r g v =
+    rw (
+      sub-view keyValueOf (keyValueView s x) p e,
+      sub-view rangeOf (rangeView s y) q f,
+      sub-view setupOf (numView w) r g,
+      sub-view securityOf (securityOf (treeOf k.Security (bytesAt s z))) v refl,
+    ) refl
+
+-- where there is no body, the empty one says the same
+body-there : (o : Option Tree) → bodyOf (orDone o) ≡ orElse noBody (mapO bodyOf o)
+body-there none = refl
+body-there (some t) = refl
+
+pub command-law : (s m : List ℕ) (a b : Part) (x : Header) (w : Body) → Reads k.Command m
+    → Sub k.Header s a (subAt 1 (treeOf k.Command m)) → headerView x ≡ headerOf (treeOf k.Header (bytesAt s a))
+    → Sub k.Body s b (subAt 2 (treeOf k.Command m)) → bodyView s w ≡ bodyOf (treeOf k.Body (bytesAt s b))
+    → requestView s (record { ok = true; headed = a .has; header = x; body = w }) ≡ mapO commandOf (listed k.Command m)
+command-law s m a b x w y p e q f =
+    rw (sub-view headerOf (headerView x) p e, f ∙ ap bodyOf (q .tree) ∙ body-there (subAt 2 (treeOf k.Command m))) (sym (ap (mapO commandOf) (tree-is k.Command m y)))
+
+pub unread : (s : List ℕ) (r : Request) → r .ok ≡ false → isSome (listed k.Command s) ≡ false → requestView s r ≡ mapO commandOf (listed k.Command s)
+unread s r e = go (listed k.Command s)
+  where
+    go : (o : Option Tree) → isSome o ≡ false → requestView s r ≡ mapO commandOf o
+    go none f = rw e refl
+    go (some t) f = let z : _≡_ {A = ℕ} 0 1 = cc (f) in absurd (omega arith)
+
+pub no-reads : (k : Kind) (s : List ℕ) → Reads k (bytesAt s noPart)
+no-reads k s = ap (λ m. isSome (listed k m)) (nil-at s) ∙ ap isSome (nil-reads k)

@@ -1,0 +1,38 @@
+use denote.Ref.{now}
+use native.Mathlib.Omega.{arith}
+use mathlib.Core.Path.{refl}
+use borrow.Author.Needs.{needs}
+use Rattle.tree.specs.declared.Kind.the-variants as k
+use Rattle.lookups.specs.Views.{bytesAt}
+use Rattle.requests.proofs.Levels.{level-at, num-at, part-at}
+use Rattle.requests.proofs.message.read_auth.Statement.{statement}
+use Rattle.requests.proofs.message.read_auth.Tie as tie
+
+open-at-requires : tie.Need-open-at-requires
+open-at-requires c κs = search needs
+
+num-of-requires : tie.Need-num-of-requires
+num-of-requires c κs = let b = c .before .before in let o = c .open-at in num-at k.HmacAuth (now (b .args .s)) (b .args .p) (o .result) (o .ensures) (b .pre) 1 (omega arith)
+
+part-of-requires : tie.Need-part-of-requires
+part-of-requires c κs = let b = c .before .before .before in let o = c .before .open-at in part-at k.HmacAuth (now (b .args .s)) (b .args .p) (o .result) (o .ensures) (b .pre) 2 (omega arith) refl
+
+returns : tie.Need-returns
+returns c =
+    let b = c .before .before .before .before in
+    let s = now (b .args .s) in
+    let p = b .args .p in
+    let o = c .before .before .open-at in
+    let t = o .result in
+    let x0 = c .before .num-of in
+    let x1 = c .part-of in
+    (x0 .ensures k.HmacAuth (bytesAt s p) (level-at k.HmacAuth s p t (o .ensures) (b .pre)) refl, x1 .ensures .bytes k.HmacAuth (level-at k.HmacAuth s p t (o .ensures) (b .pre)) refl, x1 .ensures .lies)
+
+pub read-auth-spec : {M : Type 1} → statement M
+read-auth-spec =
+    tie.close
+    (tie.spec
+    open-at-requires
+    num-of-requires
+    part-of-requires
+    returns)

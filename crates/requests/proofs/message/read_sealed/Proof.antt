@@ -1,0 +1,65 @@
+use denote.Ref.{now}
+use native.Mathlib.Omega.{arith}
+use mathlib.Core.Path.{refl}
+use borrow.Author.Needs.{needs}
+use Rattle.tree.specs.declared.Kind.the-variants as k
+use Rattle.lookups.specs.Views.{bytesAt}
+use Rattle.requests.proofs.Levels.{level-at, num-at, part-at, sub-at, sub-reads}
+use Rattle.requests.proofs.Sealing.{sealed-law}
+use Rattle.requests.proofs.message.read_sealed.Statement.{statement}
+use Rattle.requests.proofs.message.read_sealed.Tie as tie
+
+open-at-requires : tie.Need-open-at-requires
+open-at-requires c κs = search needs
+
+num-of-requires : tie.Need-num-of-requires
+num-of-requires c κs = let b = c .before .before in let o = c .open-at in num-at k.Message (now (b .args .s)) (b .args .p) (o .result) (o .ensures) (b .pre) 4 (omega arith)
+
+part-of-requires : tie.Need-part-of-requires
+part-of-requires c κs = let b = c .before .before .before in let o = c .before .open-at in part-at k.Message (now (b .args .s)) (b .args .p) (o .result) (o .ensures) (b .pre) 5 (omega arith) refl
+
+part-of-requires-2 : tie.Need-part-of-requires-2
+part-of-requires-2 c κs = let b = c .before .before .before .before in let o = c .before .before .open-at in part-at k.Message (now (b .args .s)) (b .args .p) (o .result) (o .ensures) (b .pre) 7 (omega arith) refl
+
+read-auth-requires : tie.Need-read-auth-requires
+read-auth-requires c κs = let b = c .before .before .before .before .before in let o = c .before .before .before .open-at in let x = c .before .part-of in sub-reads k.Message (now (b .args .s)) (b .args .p) (o .result) (o .ensures) (b .pre) 5 k.HmacAuth refl (x .result) (x .ensures)
+
+is-one-requires : tie.Need-is-one-requires
+is-one-requires c κs = search needs
+
+all-of-requires : tie.Need-all-of-requires
+all-of-requires c κs = search needs
+
+returns : tie.Need-returns
+returns c =
+    let b = c .before .before .before .before .before .before .before .before .before .before in
+    let s = now (b .args .s) in
+    let p = b .args .p in
+    let o = c .before .before .before .before .before .before .before .before .open-at in
+    let t = o .result in
+    let x0 = c .before .before .before .before .before .before .before .num-of in
+    let x1 = c .before .before .before .before .before .before .part-of in
+    let x2 = c .before .before .before .before .before .part-of2 in
+    let x3 = c .before .before .before .before .read-auth in
+    let x6 = c .before .is-one in
+    let x7 = c .all-of in (
+      sealed-law s p (x0 .result) (x1 .result) (x2 .result) (x3 .result) (x6 .result) (x7 .result) (b .pre .1)
+          (x0 .ensures k.Message (bytesAt s p) (level-at k.Message s p t (o .ensures) (b .pre)) refl)
+          (sub-at k.Message s p t (o .ensures) (b .pre) 5 k.HmacAuth refl (x1 .result) (x1 .ensures))
+          (x2 .ensures .bytes k.Message (level-at k.Message s p t (o .ensures) (b .pre)) refl)
+          (x3 .ensures .0) (x3 .ensures .1) (x3 .ensures .2) (x6 .ensures) (x7 .ensures),
+      record { hmac = x3 .ensures .2; command = x2 .ensures .lies },
+    )
+
+pub read-sealed-spec : {M : Type 1} → statement M
+read-sealed-spec =
+    tie.close
+    (tie.spec
+    open-at-requires
+    num-of-requires
+    part-of-requires
+    part-of-requires-2
+    read-auth-requires
+    is-one-requires
+    all-of-requires
+    returns)

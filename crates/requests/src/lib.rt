@@ -1,0 +1,221 @@
+// A message and a command by value: what their fields say, and where their parts lie.
+pub mod message;
+
+ghost use mathlib.Core.Path.{_≡_};
+ghost use mathlib.Core.List.{List};
+ghost use mathlib.Core.Bool.{false};
+ghost use Prim.Native.Nat.{ℕ};
+ghost use Rattle.tree.specs.Tree.{listed, mapO};
+ghost use Rattle.lookups.specs.Views.{Inside, Reads, bytesAt, numView, treeOf};
+ghost use Rattle.protocol.specs.Command.{bodyOf, commandOf, headerOf, keyValueOf, rangeOf, setupOf};
+ghost use Rattle.requests.specs.Views.{BodyLies, KeyValueLies, RangeLies, bodyView, headerView, keyValueView, rangeView, requestView};
+use fields::nested::reads;
+use lookups::parts::Num;
+use lookups::parts::Part;
+use lookups::parts::num_of;
+use lookups::parts::open_at;
+use lookups::parts::part_of;
+use tree::Kind;
+
+// clusterVersion, connectionID, sequence and messageType.
+pub struct Header {
+    pub cluster: Num,
+    pub connection: Num,
+    pub sequence: Num,
+    pub kind: Num,
+}
+
+// newVersion, key, dbVersion, tag, algorithm, metadataOnly and force.
+pub struct KeyValue {
+    pub version: Part,
+    pub key: Part,
+    pub expected: Part,
+    pub tag: Part,
+    pub algorithm: Num,
+    pub metadata: Num,
+    pub force: Num,
+}
+
+// startKey, endKey, startInclusive, endInclusive, maxReturned and reverse.
+pub struct Range {
+    pub start: Part,
+    pub end: Part,
+    pub first: Num,
+    pub last: Num,
+    pub limit: Num,
+    pub reverse: Num,
+}
+
+// The parts of a body, each with whether it is there: keyValue, range, setup (its newClusterVersion) and security.
+pub struct Body {
+    pub keyed: bool,
+    pub entry: KeyValue,
+    pub ranged: bool,
+    pub range: Range,
+    pub changed: bool,
+    pub cluster: Num,
+    pub security: Part,
+}
+
+// A command; ok is false where it does not decode.
+pub struct Request {
+    pub ok: bool,
+    pub headed: bool,
+    pub header: Header,
+    pub body: Body,
+}
+
+fn read_header(s: &[u8], p: Part) -> Header
+    requires { ⌜ Inside (now s) p × Reads (Kind.Header) (bytesAt (now s) p) ⌝ }
+    ensures { λ r. ⌜ headerView r ≡ headerOf (treeOf (Kind.Header) (bytesAt (now (s .entry)) p)) ⌝ }
+{
+    let t = open_at(s, p, Kind::Header);
+    Header {
+        cluster: num_of(t, 1),
+        connection: num_of(t, 3),
+        sequence: num_of(t, 4),
+        kind: num_of(t, 7),
+    }
+}
+
+fn read_key_value(s: &[u8], p: Part) -> KeyValue
+    requires { ⌜ Inside (now s) p × Reads (Kind.KeyValue) (bytesAt (now s) p) ⌝ }
+    ensures { λ r. ⌜ (keyValueView (now (s .entry)) r ≡ keyValueOf (treeOf (Kind.KeyValue) (bytesAt (now (s .entry)) p))) × KeyValueLies (now (s .entry)) r ⌝ }
+{
+    let t = open_at(s, p, Kind::KeyValue);
+    KeyValue {
+        version: part_of(s, p, t, 2),
+        key: part_of(s, p, t, 3),
+        expected: part_of(s, p, t, 4),
+        tag: part_of(s, p, t, 5),
+        algorithm: num_of(t, 6),
+        metadata: num_of(t, 7),
+        force: num_of(t, 8),
+    }
+}
+
+fn read_range(s: &[u8], p: Part) -> Range
+    requires { ⌜ Inside (now s) p × Reads (Kind.Range) (bytesAt (now s) p) ⌝ }
+    ensures { λ r. ⌜ (rangeView (now (s .entry)) r ≡ rangeOf (treeOf (Kind.Range) (bytesAt (now (s .entry)) p))) × RangeLies (now (s .entry)) r ⌝ }
+{
+    let t = open_at(s, p, Kind::Range);
+    Range {
+        start: part_of(s, p, t, 1),
+        end: part_of(s, p, t, 2),
+        first: num_of(t, 3),
+        last: num_of(t, 4),
+        limit: num_of(t, 5),
+        reverse: num_of(t, 6),
+    }
+}
+
+fn read_setup(s: &[u8], p: Part) -> Num
+    requires { ⌜ Inside (now s) p × Reads (Kind.Setup) (bytesAt (now s) p) ⌝ }
+    ensures { λ r. ⌜ numView r ≡ setupOf (treeOf (Kind.Setup) (bytesAt (now (s .entry)) p)) ⌝ }
+{
+    let t = open_at(s, p, Kind::Setup);
+    num_of(t, 1)
+}
+
+fn read_body(s: &[u8], p: Part) -> Body
+    requires { ⌜ Inside (now s) p × Reads (Kind.Body) (bytesAt (now s) p) ⌝ }
+    ensures { λ r. ⌜ (bodyView (now (s .entry)) r ≡ bodyOf (treeOf (Kind.Body) (bytesAt (now (s .entry)) p))) × BodyLies (now (s .entry)) r ⌝ }
+{
+    let t = open_at(s, p, Kind::Body);
+    let a = part_of(s, p, t, 1);
+    let b = part_of(s, p, t, 2);
+    let c = part_of(s, p, t, 3);
+    let security = part_of(s, p, t, 7);
+    let entry = read_key_value(s, a);
+    let range = read_range(s, b);
+    let cluster = read_setup(s, c);
+    Body {
+        keyed: a.has,
+        entry,
+        ranged: b.has,
+        range,
+        changed: c.has,
+        cluster,
+        security,
+    }
+}
+
+fn read_command(s: &[u8], p: Part) -> Request
+    requires { ⌜ Inside (now s) p × Reads (Kind.Command) (bytesAt (now s) p) ⌝ }
+    ensures { λ r. ⌜ (requestView (now (s .entry)) r ≡ mapO commandOf (listed (Kind.Command) (bytesAt (now (s .entry)) p))) × BodyLies (now (s .entry)) (r .body) ⌝ }
+{
+    let t = open_at(s, p, Kind::Command);
+    let h = part_of(s, p, t, 1);
+    let b = part_of(s, p, t, 2);
+    let header = read_header(s, h);
+    let body = read_body(s, b);
+    Request {
+        ok: true,
+        headed: h.has,
+        header,
+        body,
+    }
+}
+
+fn no_request() -> Request
+    ensures { λ r. ⌜ (r .ok ≡ false) × ((s : List ℕ) → BodyLies s (r .body)) ⌝ }
+{
+    let none = Num {
+        has: false,
+        value: 0,
+    };
+    let empty = Part {
+        has: false,
+        start: 0,
+        len: 0,
+    };
+    Request {
+        ok: false,
+        headed: false,
+        header: Header {
+            cluster: none,
+            connection: none,
+            sequence: none,
+            kind: none,
+        },
+        body: Body {
+            keyed: false,
+            entry: KeyValue {
+                version: empty,
+                key: empty,
+                expected: empty,
+                tag: empty,
+                algorithm: none,
+                metadata: none,
+                force: none,
+            },
+            ranged: false,
+            range: Range {
+                start: empty,
+                end: empty,
+                first: none,
+                last: none,
+                limit: none,
+                reverse: none,
+            },
+            changed: false,
+            cluster: none,
+            security: empty,
+        },
+    }
+}
+
+// What a command says; not ok where it does not decode.
+pub fn read_request(s: &[u8]) -> Request
+    ensures { λ r. ⌜ (requestView (now (s .entry)) r ≡ mapO commandOf (listed (Kind.Command) (now (s .entry)))) × BodyLies (now (s .entry)) (r .body) ⌝ }
+{
+    if reads(s, Kind::Command) {
+        let whole = Part {
+            has: true,
+            start: 0,
+            len: s.len(),
+        };
+        return read_command(s, whole);
+    }
+    no_request()
+}

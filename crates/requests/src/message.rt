@@ -1,0 +1,115 @@
+// A message by value: what step 1 reads of it.
+ghost use mathlib.Core.Path.{_≡_};
+ghost use mathlib.Core.List.{List};
+ghost use Prim.Native.Nat.{ℕ};
+ghost use mathlib.Core.Bool.{false};
+ghost use Rattle.wire.specs.Reader.{choose};
+ghost use Rattle.tree.specs.Tree.{intAt, rawAt};
+ghost use Rattle.lookups.specs.Views.{Inside, Lies, Reads, bytesAt, numView, partView, treeOf};
+ghost use Rattle.protocol.specs.Reading.{isOne, readMessage};
+ghost use Rattle.requests.specs.Messages.{SealedLies, sealedView};
+use fields::nested::reads;
+use lookups::parts::Num;
+use lookups::parts::Part;
+use lookups::parts::num_of;
+use lookups::parts::open_at;
+use lookups::parts::part_of;
+use tree::Kind;
+
+pub struct Auth {
+    pub identity: Num,
+    pub hmac: Part,
+}
+
+// ok is false where step 1 refuses the message.
+pub struct Sealed {
+    pub ok: bool,
+    pub identity: u64,
+    pub hmac: Part,
+    pub command: Part,
+}
+
+fn is_one(n: Num) -> bool
+    ensures { λ r. ⌜ r ≡ isOne (numView n) ⌝ }
+{
+    let has = n.has;
+    if has {
+        return n.value == 1;
+    }
+    false
+}
+
+fn all_of(a: bool, b: bool, c: bool, d: bool) -> bool
+    ensures { λ r. ⌜ r ≡ choose a (choose b (choose c d false) false) false ⌝ }
+{
+    if a {
+        if b {
+            if c {
+                return d;
+            }
+        }
+    }
+    false
+}
+
+fn read_auth(s: &[u8], p: Part) -> Auth
+    requires { ⌜ Inside (now s) p × Reads (Kind.HmacAuth) (bytesAt (now s) p) ⌝ }
+    ensures { λ r. ⌜ (numView (r .identity) ≡ intAt 1 (treeOf (Kind.HmacAuth) (bytesAt (now (s .entry)) p))) × (partView (now (s .entry)) (r .hmac) ≡ rawAt 2 (treeOf (Kind.HmacAuth) (bytesAt (now (s .entry)) p))) × Lies (now (s .entry)) (r .hmac) ⌝ }
+{
+    let t = open_at(s, p, Kind::HmacAuth);
+    Auth {
+        identity: num_of(t, 1),
+        hmac: part_of(s, p, t, 2),
+    }
+}
+
+fn read_sealed(s: &[u8], p: Part) -> Sealed
+    requires { ⌜ Inside (now s) p × Reads (Kind.Message) (bytesAt (now s) p) ⌝ }
+    ensures { λ r. ⌜ (sealedView (now (s .entry)) r ≡ readMessage (bytesAt (now (s .entry)) p)) × SealedLies (now (s .entry)) r ⌝ }
+{
+    let t = open_at(s, p, Kind::Message);
+    let auth_type = num_of(t, 4);
+    let a = part_of(s, p, t, 5);
+    let command = part_of(s, p, t, 7);
+    let auth = read_auth(s, a);
+    let identity = auth.identity;
+    let hmac = auth.hmac;
+    let ok = all_of(is_one(auth_type), a.has, identity.has, command.has);
+    Sealed {
+        ok,
+        identity: identity.value,
+        hmac,
+        command,
+    }
+}
+
+fn no_message() -> Sealed
+    ensures { λ r. ⌜ (r .ok ≡ false) × ((s : List ℕ) → SealedLies s r) ⌝ }
+{
+    let empty = Part {
+        has: false,
+        start: 0,
+        len: 0,
+    };
+    Sealed {
+        ok: false,
+        identity: 0,
+        hmac: empty,
+        command: empty,
+    }
+}
+
+// Step 1: the identity, the hmac and the commandBytes of a message.
+pub fn read_message(s: &[u8]) -> Sealed
+    ensures { λ r. ⌜ (sealedView (now (s .entry)) r ≡ readMessage (now (s .entry))) × SealedLies (now (s .entry)) r ⌝ }
+{
+    if reads(s, Kind::Message) {
+        let whole = Part {
+            has: true,
+            start: 0,
+            len: s.len(),
+        };
+        return read_sealed(s, whole);
+    }
+    no_message()
+}
