@@ -1,0 +1,5 @@
+pub mod Walk
+pub mod Scopes
+pub mod Rests
+pub mod Acls
+pub mod Tables

@@ -1,0 +1,152 @@
+-- The walk over the messages of a repeated field, each judged and written.
+use Prim.Native.Nat.{ℕ, zero, suc, _+_, _≤_, _<_}
+use native.Mathlib.Omega.{arith}
+use mathlib.Core.Path.{_≡_, refl, sym, ap, ap₂, _∙_, subst}
+use mathlib.Core.List.{List, [], _∷_}
+use mathlib.Core.Bool.{Bool, true, false, not}
+use lib.ListN.{length}
+use lib.Dec.{leb, ltb}
+use borrow.Author.Tests.{le-leb, lt-leb, lt-ltb}
+use Rattle.tree.specs.Rules.{ruleOf}
+use Rattle.tree.specs.Tree.{Tree, consIf, subsAt}
+use Rattle.tree.specs.declared.Kind.{Kind}
+use Rattle.tree.specs.declared.Form.the-variants.{Nested}
+use Rattle.tree.specs.declared.Rule.the-variants.{Repeated}
+use Rattle.access.specs.Table.{both, all, within}
+use Rattle.lookups.specs.Views.{Inside, bytesAt, treeOf}
+use Rattle.lookups.specs.Values.{partsIn, WellFramed, NextPartIs}
+use Rattle.lookups.specs.RepeatedLaws.{treesOf, AllRead, repeated-subs, repeated-reads, reads-framed}
+use Rattle.lookups.specs.declared.parts.Part.{Part}
+use Rattle.lookups.specs.declared.repeated.NextPart.{NextPart}
+use Rattle.protocol.specs.Command.{mapL}
+use Rattle.security.specs.Security.{Stands, fewTaken, Makes}
+use Rattle.security.proofs.Walk.{both-false}
+use Rattle.security.proofs.Scopes.{makes-no}
+
+-- ---- what is still to come
+pub record Rest (k : Kind) (num : ℕ) (s : List ℕ) (left : Part) : Type 0 where
+  pub inside : Inside s left
+  pub framed : WellFramed (bytesAt s left)
+  pub reads : AllRead k (partsIn num (bytesAt s left))
+
+module _ {A : Type 0} (k : Kind) (num : ℕ) (f : Tree → A) (s : List ℕ) where
+  abbrev pub coming : Part → List A
+  coming left = mapL f (treesOf k (partsIn num (bytesAt s left)))
+
+  pub rest-start : (kp : Kind) (p : Part) → Stands kp s p → ruleOf kp num ≡ Repeated (Nested k) → Rest k num s p
+  rest-start kp p y q = record { inside = y .inside; framed = reads-framed kp (bytesAt s p) (y .reads); reads = repeated-reads kp (bytesAt s p) (y .reads) num k q }
+
+  pub whole-is : (kp : Kind) (p : Part) → Stands kp s p → ruleOf kp num ≡ Repeated (Nested k) → mapL f (subsAt num (treeOf kp (bytesAt s p))) ≡ coming p
+  whole-is kp p y q = ap (mapL f) (repeated-subs kp (bytesAt s p) (y .reads) num k q)
+
+  module _ (left : Part) (w : Rest k num s left) (x : NextPart) (h : NextPartIs s left num x) where
+    parts : (b : Bool) → x .part .has ≡ b → partsIn num (bytesAt s left) ≡ consIf b (bytesAt s (x .part)) (partsIn num (bytesAt s (x .rest)))
+    parts b e = h .first (w .framed) ∙ ap (λ (b : Bool). consIf b (bytesAt s (x .part)) (partsIn num (bytesAt s (x .rest)))) e
+
+    pub rest-end : x .part .has ≡ false → coming left ≡ []
+    unfolding mapL
+    rest-end e = ap (λ (l : List (List ℕ)). mapL f (treesOf k l)) (parts false e ∙ h .last e)
+
+    module _ (e : x .part .has ≡ true) where
+      both-read : AllRead k (bytesAt s (x .part) ∷ partsIn num (bytesAt s (x .rest)))
+      both-read = subst (λ (l : List (List ℕ)). AllRead k l) (parts true e) (w .reads)
+
+      pub rest-stands : Stands k s (x .part)
+      rest-stands = record { inside = h .lies .inside; reads = both-read .0 }
+
+      pub rest-next : Rest k num s (x .rest)
+      rest-next = record { inside = h .inside; framed = h .framed (w .framed); reads = both-read .1 }
+
+      pub rest-more : coming left ≡ f (treeOf k (bytesAt s (x .part))) ∷ coming (x .rest)
+      unfolding mapL
+      rest-more = ap (λ (l : List (List ℕ)). mapL f (treesOf k l)) (parts true e)
+
+-- ---- each judged, and written at the next place
+module _ {A : Type 0} (k : Kind) (num : ℕ) (f : Tree → A) (taken : A → Bool) (most : ℕ) (put : List ℕ → ℕ → List A → List ℕ) (one : List ℕ → ℕ → A → List ℕ) (s : List ℕ) (whole : List A) (first : List ℕ) where
+  pub record Adding (left : Part) (out : List ℕ) (n : ℕ) : Type 0 where
+    pub rest : Rest k num s left
+    pub judged : all taken (coming k num f s left) ≡ all taken whole
+    pub count : n + length (coming k num f s left) ≡ length whole
+    pub bytes : put out n (coming k num f s left) ≡ put first 0 whole
+    pub few : n ≤ most
+
+  pub adding-start : (kp : Kind) (p : Part) → Stands kp s p → ruleOf kp num ≡ Repeated (Nested k) → whole ≡ mapL f (subsAt num (treeOf kp (bytesAt s p))) → Adding p first 0
+  adding-start kp p y q e =
+      let g : coming k num f s p ≡ whole = sym (e ∙ whole-is k num f s kp p y q) in
+      let c : length (coming k num f s p) ≡ length whole = ap length g in
+      record {
+        rest = rest-start k num f s kp p y q;
+        judged = ap (all taken) g;
+        count = omega arith;
+        bytes = ap (put first 0) g;
+        few = omega arith;
+      }
+
+  module _ (put-nil : (l : List ℕ) (n : ℕ) → put l n [] ≡ l) (put-cons : (l : List ℕ) (n : ℕ) (a : A) (as' : List A) → put l n (a ∷ as') ≡ put (one l n a) (n + 1) as')
+      (left : Part) (out : List ℕ) (n : ℕ) (w : Adding left out n) (x : NextPart) (h : NextPartIs s left num x) where
+    module _ (e : x .part .has ≡ false) where
+      nothing : coming k num f s left ≡ []
+      nothing = rest-end k num f s left (w .rest) x h e
+
+      all-taken : all taken whole ≡ true
+      unfolding all
+      all-taken = sym (w .judged) ∙ ap (all taken) nothing
+
+      all-counted : length whole ≡ n
+      all-counted = let c = w .count in let z : length (coming k num f s left) ≡ 0 = ap length nothing in omega arith
+
+      written : out ≡ put first 0 whole
+      written = sym (put-nil out n) ∙ ap (put out n) (sym nothing) ∙ w .bytes
+
+      few-taken : fewTaken most taken whole ≡ both (within 1 most n) true
+      few-taken = ap₂ (λ (k : ℕ) (b : Bool). both (within 1 most k) b) all-counted all-taken
+
+      pub adding-none : Makes (fewTaken most taken whole) (ltb 0 n) out (put first 0 whole)
+      adding-none = record { answer = sym (few-taken ∙ counted n (w .few)); made = λ t. written }
+        where
+          counted : (n : ℕ) → n ≤ most → both (within 1 most n) true ≡ ltb 0 n
+          counted zero l = refl
+          counted (suc j) l = ap₂ (λ (a b : Bool). both (both a b) true) (le-leb 1 (suc j) (omega arith)) (le-leb (suc j) most l) ∙ sym (lt-ltb 0 (suc j) (omega arith))
+
+      full-none : 1 ≤ most → most ≤ n → Makes (fewTaken most taken whole) true out (put first 0 whole)
+      full-none o m =
+          let l = w .few in
+          record { answer = sym (few-taken ∙ ap₂ (λ (a b : Bool). both (both a b) true) (le-leb 1 n (omega arith)) (le-leb n most l)); made = λ t. written }
+
+    module _ (e : x .part .has ≡ true) where
+      pub adding-refused : taken (f (treeOf k (bytesAt s (x .part)))) ≡ false → (o b : List ℕ) → Makes (fewTaken most taken whole) false o b
+      unfolding all
+      adding-refused t o b =
+          let more = rest-more k num f s left (w .rest) x h e in
+          let no : all taken whole ≡ false = sym (w .judged) ∙ ap (all taken) more ∙ ap (λ (b : Bool). both b (all taken (coming k num f s (x .rest)))) t in
+          makes-no (fewTaken most taken whole) o b (ap (both (within 1 most (length whole))) no ∙ both-false (within 1 most (length whole)))
+
+      pub adding-on : taken (f (treeOf k (bytesAt s (x .part)))) ≡ true → (o : List ℕ) → o ≡ one out n (f (treeOf k (bytesAt s (x .part)))) → n < most → Adding (x .rest) o (n + 1)
+      unfolding all
+      adding-on t o q l =
+          let a = f (treeOf k (bytesAt s (x .part))) in
+          let more = rest-more k num f s left (w .rest) x h e in
+          let c = w .count in
+          let d : length (coming k num f s left) ≡ suc (length (coming k num f s (x .rest))) = ap length more in
+          record {
+            rest = rest-next k num f s left (w .rest) x h e;
+            judged = sym (ap (all taken) more ∙ ap (λ (b : Bool). both b (all taken (coming k num f s (x .rest)))) t) ∙ w .judged;
+            count = omega arith;
+            bytes = ap (λ (o : List ℕ). put o (n + 1) (coming k num f s (x .rest))) q ∙ sym (put-cons out n a (coming k num f s (x .rest))) ∙ ap (put out n) (sym more) ∙ w .bytes;
+            few = omega arith;
+          }
+
+      full-more : most ≤ n → (o b : List ℕ) → Makes (fewTaken most taken whole) false o b
+      full-more m o b =
+          let more = rest-more k num f s left (w .rest) x h e in
+          let c = w .count in
+          let d : length (coming k num f s left) ≡ suc (length (coming k num f s (x .rest))) = ap length more in
+          let big : leb (length whole) most ≡ false = lt-leb (length whole) most (omega arith) in
+          makes-no (fewTaken most taken whole) o b (ap (λ (t : Bool). both (both (leb 1 (length whole)) t) (all taken whole)) big ∙ ap (λ (t : Bool). both t (all taken whole)) (both-false (leb 1 (length whole))))
+
+    pub adding-end : 1 ≤ most → most ≤ n → Makes (fewTaken most taken whole) (not (x .part .has)) out (put first 0 whole)
+    adding-end o m = go (x .part .has) refl
+      where
+        go : (b : Bool) → x .part .has ≡ b → Makes (fewTaken most taken whole) (not b) out (put first 0 whole)
+        go true e = full-more e m out (put first 0 whole)
+        go false e = full-none e o m

@@ -1,0 +1,91 @@
+use native.Mathlib.Omega.{arith}
+use mathlib.Core.Path.{refl}
+use denote.Ref.{now}
+use borrow.Author.Tests.{not-true, not-false}
+use Rattle.tree.specs.declared.Kind.the-variants as kind
+use Rattle.lookups.specs.Views.{Level, bytesAt}
+use Rattle.lookups.proofs.Slotted.{level-sized, part-ready}
+use Rattle.security.proofs.Scopes.{level-at, Facts, facts-of, scope-unnamed, scope-far, scope-long, scope-read}
+use borrow.Author.Needs.{needs}
+use Rattle.security.proofs.read_scope.Statement.{statement}
+use Rattle.security.proofs.read_scope.Tie as tie
+
+level : (c : tie.After-open-at) → Level kind.Scope (bytesAt (now (c .before .before .args .s)) (c .before .before .args .p)) (c .open-at .result)
+level c = level-at (c .open-at .result) (c .before .before .pre) (c .open-at .ensures)
+
+facts : (c : tie.After-permissions-of) → let n = c .before .before .before .before in let z = n .before .before .before .before in
+    Facts (now (z .args .s)) (z .args .p) (n .before .part-of .result) (c .before .before .before .number-or .result) (c .before .flag-of .result) (c .permissions-of .result)
+facts c =
+    let n = c .before .before .before .before in
+    let z = n .before .before .before .before in
+    let t = n .before .before .open-at in
+    let v = n .before .part-of in
+    facts-of (now (z .args .s)) (z .args .p) (t .result) (z .pre) (t .ensures) (v .result) (v .ensures) (n .num-of .result) (c .before .before .before .number-or .result) (n .num-of .ensures) (c .before .before .before .number-or .ensures)
+    (c .before .before .num-of2 .result) (c .before .flag-of .result) (c .before .before .num-of2 .ensures) (c .before .flag-of .ensures) (c .permissions-of .result) (c .permissions-of .ensures)
+
+open-at-requires : tie.Need-open-at-requires
+open-at-requires c κs = c .before .pre .inside
+
+part-of-requires : tie.Need-part-of-requires
+part-of-requires c κs =
+    let z = c .before .before in
+    part-ready kind.Scope (now (z .args .s)) (z .args .p) (c .open-at .result) (level c) (z .pre .inside) 2 (omega arith) refl
+
+num-of-requires : tie.Need-num-of-requires
+num-of-requires c κs = (omega arith, level-sized _ _ _ (level (c .before)))
+
+number-or-requires : tie.Need-number-or-requires
+number-or-requires c κs = search needs
+
+num-of-requires-2 : tie.Need-num-of-requires-2
+num-of-requires-2 c κs = (omega arith, level-sized _ _ _ (level (c .before .before .before)))
+
+flag-of-requires : tie.Need-flag-of-requires
+flag-of-requires c κs = search needs
+
+permissions-of-requires : tie.Need-permissions-of-requires
+permissions-of-requires c κs = c .before .before .before .before .before .before .before .pre
+
+refused-scope-requires : tie.Need-refused-scope-requires
+refused-scope-requires c κs = search needs
+
+returns : tie.Need-returns
+returns c = scope-unnamed (facts (c .before .before)) (not-true _ (c .before .if1 .taken)) (c .refused-scope .result) (c .refused-scope .ensures)
+
+refused-scope-requires-2 : tie.Need-refused-scope-requires-2
+refused-scope-requires-2 c κs = search needs
+
+returns-2 : tie.Need-returns-2
+returns-2 c = scope-far (facts (c .before .before .before)) (c .before .if2 .taken) (c .refused-scope2 .result) (c .refused-scope2 .ensures)
+
+refused-scope-requires-3 : tie.Need-refused-scope-requires-3
+refused-scope-requires-3 c κs = search needs
+
+returns-3 : tie.Need-returns-3
+returns-3 c = scope-long (facts (c .before .before .before .before .before)) (c .before .if3 .taken) (c .refused-scope3 .result) (c .refused-scope3 .ensures)
+
+cast-t12 : tie.Need-cast-t12
+cast-t12 c = let h = c .before .before .if2 .left in omega arith
+
+returns-4 : tie.Need-returns-4
+returns-4 c = scope-read (facts (c .before .before .before .before)) (not-false _ (c .before .before .before .if1 .left)) (c .before .before .if2 .left) (c .if3 .left)
+
+pub read-scope-spec : {M : Type 1} → statement M
+read-scope-spec =
+    tie.close
+    (tie.spec
+    open-at-requires
+    part-of-requires
+    num-of-requires
+    number-or-requires
+    num-of-requires-2
+    flag-of-requires
+    permissions-of-requires
+    refused-scope-requires
+    returns
+    refused-scope-requires-2
+    returns-2
+    refused-scope-requires-3
+    returns-3
+    cast-t12
+    returns-4)
