@@ -31,8 +31,8 @@ module _ (k : Kind) (s : List ℕ) (p : Part) (t : Slots) (h : Tells k (bytesAt 
   pub level-at : Level k (bytesAt s p) t
   level-at = record { tells = h; reads = y .1 }
 
-  pub num-at : (n : ℕ) → n < 16 → (n < 16) × Sized t
-  num-at n l = (l, level-sized k (bytesAt s p) t level-at)
+  pub sized-at : Sized t
+  sized-at = level-sized k (bytesAt s p) t level-at
 
   pub part-at : (n : ℕ) → n < 16 → isPart (ruleOf k n) ≡ true → (n < 16) × Sized t × Inside s p × SlotInside (bytesAt s p) t n
   part-at n l e = part-ready k s p t level-at (y .0) n l e

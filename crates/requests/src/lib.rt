@@ -83,9 +83,11 @@ fn read_key_value(s: &[u8], p: Part) -> KeyValue
     ensures { λ r. ⌜ (keyValueView (now (s .entry)) r ≡ keyValueOf (treeOf (Kind.KeyValue) (bytesAt (now (s .entry)) p))) × KeyValueLies (now (s .entry)) r ⌝ }
 {
     let t = open_at(s, p, Kind::KeyValue);
+    let version = part_of(s, p, t, 2);
+    let key = part_of(s, p, t, 3);
     KeyValue {
-        version: part_of(s, p, t, 2),
-        key: part_of(s, p, t, 3),
+        version,
+        key,
         expected: part_of(s, p, t, 4),
         tag: part_of(s, p, t, 5),
         algorithm: num_of(t, 6),
@@ -157,8 +159,8 @@ fn read_command(s: &[u8], p: Part) -> Request
     }
 }
 
-fn no_request() -> Request
-    ensures { λ r. ⌜ (r .ok ≡ false) × ((s : List ℕ) → BodyLies s (r .body)) ⌝ }
+fn no_body() -> Body
+    ensures { λ r. ⌜ ((s : List ℕ) → BodyLies s r) ⌝ }
 {
     let none = Num {
         has: false,
@@ -169,6 +171,39 @@ fn no_request() -> Request
         start: 0,
         len: 0,
     };
+    Body {
+        keyed: false,
+        entry: KeyValue {
+            version: empty,
+            key: empty,
+            expected: empty,
+            tag: empty,
+            algorithm: none,
+            metadata: none,
+            force: none,
+        },
+        ranged: false,
+        range: Range {
+            start: empty,
+            end: empty,
+            first: none,
+            last: none,
+            limit: none,
+            reverse: none,
+        },
+        changed: false,
+        cluster: none,
+        security: empty,
+    }
+}
+
+fn no_request() -> Request
+    ensures { λ r. ⌜ (r .ok ≡ false) × ((s : List ℕ) → BodyLies s (r .body)) ⌝ }
+{
+    let none = Num {
+        has: false,
+        value: 0,
+    };
     Request {
         ok: false,
         headed: false,
@@ -178,30 +213,7 @@ fn no_request() -> Request
             sequence: none,
             kind: none,
         },
-        body: Body {
-            keyed: false,
-            entry: KeyValue {
-                version: empty,
-                key: empty,
-                expected: empty,
-                tag: empty,
-                algorithm: none,
-                metadata: none,
-                force: none,
-            },
-            ranged: false,
-            range: Range {
-                start: empty,
-                end: empty,
-                first: none,
-                last: none,
-                limit: none,
-                reverse: none,
-            },
-            changed: false,
-            cluster: none,
-            security: empty,
-        },
+        body: no_body(),
     }
 }
 

@@ -1,25 +1,13 @@
 use mathlib.Core.Path.{refl}
-use Rattle.tree.specs.declared.Kind.the-variants as k
-use Rattle.lookups.proofs.Slotted.{lies-no}
-use Rattle.requests.proofs.Levels.{no-reads}
+use borrow.Author.Needs.{needs}
 use Rattle.requests.proofs.no_request.Statement.{statement}
 use Rattle.requests.proofs.no_request.Tie as tie
 
+no-body-requires : tie.Need-no-body-requires
+no-body-requires c κs = search needs
+
 returns : tie.Need-returns
-returns c = (
-  refl,
-  λ s.
-      let l = lies-no s in
-      record {
-        entry = record { version = l; key = l; expected = l; tag = l };
-        range = record { start = l; end = l };
-        security = l;
-        reads = no-reads k.Security s;
-      },
-)
+returns c = (refl, c .no-body .ensures)
 
 pub no-request-spec : {M : Type 1} → statement M
-no-request-spec =
-    tie.close
-    (tie.spec
-    returns)
+no-request-spec = tie.close (tie.spec no-body-requires returns)

@@ -2,7 +2,7 @@ use denote.Ref.{now}
 use native.Mathlib.Omega.{arith}
 use borrow.Author.Needs.{needs}
 use Rattle.tree.specs.declared.Kind.the-variants as k
-use Rattle.requests.proofs.Levels.{header-law, level-at, num-at}
+use Rattle.requests.proofs.Levels.{header-law, level-at, sized-at}
 use Rattle.requests.proofs.read_header.Statement.{statement}
 use Rattle.requests.proofs.read_header.Tie as tie
 
@@ -10,16 +10,16 @@ open-at-requires : tie.Need-open-at-requires
 open-at-requires c κs = search needs
 
 num-of-requires : tie.Need-num-of-requires
-num-of-requires c κs = let b = c .before .before in let o = c .open-at in num-at k.Header (now (b .args .s)) (b .args .p) (o .result) (o .ensures) (b .pre) 1 (omega arith)
+num-of-requires c κs = let b = c .before .before in let o = c .open-at in (omega arith, sized-at k.Header (now (b .args .s)) (b .args .p) (o .result) (o .ensures) (b .pre))
 
 num-of-requires-2 : tie.Need-num-of-requires-2
-num-of-requires-2 c κs = let b = c .before .before .before in let o = c .before .open-at in num-at k.Header (now (b .args .s)) (b .args .p) (o .result) (o .ensures) (b .pre) 3 (omega arith)
+num-of-requires-2 c κs = let b = c .before .before .before in let o = c .before .open-at in (omega arith, sized-at k.Header (now (b .args .s)) (b .args .p) (o .result) (o .ensures) (b .pre))
 
 num-of-requires-3 : tie.Need-num-of-requires-3
-num-of-requires-3 c κs = let b = c .before .before .before .before in let o = c .before .before .open-at in num-at k.Header (now (b .args .s)) (b .args .p) (o .result) (o .ensures) (b .pre) 4 (omega arith)
+num-of-requires-3 c κs = let b = c .before .before .before .before in let o = c .before .before .open-at in (omega arith, sized-at k.Header (now (b .args .s)) (b .args .p) (o .result) (o .ensures) (b .pre))
 
 num-of-requires-4 : tie.Need-num-of-requires-4
-num-of-requires-4 c κs = let b = c .before .before .before .before .before in let o = c .before .before .before .open-at in num-at k.Header (now (b .args .s)) (b .args .p) (o .result) (o .ensures) (b .pre) 7 (omega arith)
+num-of-requires-4 c κs = let b = c .before .before .before .before .before in let o = c .before .before .before .open-at in (omega arith, sized-at k.Header (now (b .args .s)) (b .args .p) (o .result) (o .ensures) (b .pre))
 
 returns : tie.Need-returns
 returns c =

@@ -3,7 +3,7 @@ use native.Mathlib.Omega.{arith}
 use mathlib.Core.Path.{refl}
 use borrow.Author.Needs.{needs}
 use Rattle.tree.specs.declared.Kind.the-variants as k
-use Rattle.requests.proofs.Levels.{key-value-law, level-at, num-at, part-at}
+use Rattle.requests.proofs.Levels.{key-value-law, level-at, part-at, sized-at}
 use Rattle.requests.proofs.read_key_value.Statement.{statement}
 use Rattle.requests.proofs.read_key_value.Tie as tie
 
@@ -23,13 +23,13 @@ part-of-requires-4 : tie.Need-part-of-requires-4
 part-of-requires-4 c κs = let b = c .before .before .before .before .before in let o = c .before .before .before .open-at in part-at k.KeyValue (now (b .args .s)) (b .args .p) (o .result) (o .ensures) (b .pre) 5 (omega arith) refl
 
 num-of-requires : tie.Need-num-of-requires
-num-of-requires c κs = let b = c .before .before .before .before .before .before in let o = c .before .before .before .before .open-at in num-at k.KeyValue (now (b .args .s)) (b .args .p) (o .result) (o .ensures) (b .pre) 6 (omega arith)
+num-of-requires c κs = let b = c .before .before .before .before .before .before in let o = c .before .before .before .before .open-at in (omega arith, sized-at k.KeyValue (now (b .args .s)) (b .args .p) (o .result) (o .ensures) (b .pre))
 
 num-of-requires-2 : tie.Need-num-of-requires-2
-num-of-requires-2 c κs = let b = c .before .before .before .before .before .before .before in let o = c .before .before .before .before .before .open-at in num-at k.KeyValue (now (b .args .s)) (b .args .p) (o .result) (o .ensures) (b .pre) 7 (omega arith)
+num-of-requires-2 c κs = let b = c .before .before .before .before .before .before .before in let o = c .before .before .before .before .before .open-at in (omega arith, sized-at k.KeyValue (now (b .args .s)) (b .args .p) (o .result) (o .ensures) (b .pre))
 
 num-of-requires-3 : tie.Need-num-of-requires-3
-num-of-requires-3 c κs = let b = c .before .before .before .before .before .before .before .before in let o = c .before .before .before .before .before .before .open-at in num-at k.KeyValue (now (b .args .s)) (b .args .p) (o .result) (o .ensures) (b .pre) 8 (omega arith)
+num-of-requires-3 c κs = let b = c .before .before .before .before .before .before .before .before in let o = c .before .before .before .before .before .before .open-at in (omega arith, sized-at k.KeyValue (now (b .args .s)) (b .args .p) (o .result) (o .ensures) (b .pre))
 
 returns : tie.Need-returns
 returns c =

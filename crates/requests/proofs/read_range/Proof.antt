@@ -3,7 +3,7 @@ use native.Mathlib.Omega.{arith}
 use mathlib.Core.Path.{refl}
 use borrow.Author.Needs.{needs}
 use Rattle.tree.specs.declared.Kind.the-variants as k
-use Rattle.requests.proofs.Levels.{level-at, num-at, part-at, range-law}
+use Rattle.requests.proofs.Levels.{level-at, part-at, range-law, sized-at}
 use Rattle.requests.proofs.read_range.Statement.{statement}
 use Rattle.requests.proofs.read_range.Tie as tie
 
@@ -17,16 +17,16 @@ part-of-requires-2 : tie.Need-part-of-requires-2
 part-of-requires-2 c κs = let b = c .before .before .before in let o = c .before .open-at in part-at k.Range (now (b .args .s)) (b .args .p) (o .result) (o .ensures) (b .pre) 2 (omega arith) refl
 
 num-of-requires : tie.Need-num-of-requires
-num-of-requires c κs = let b = c .before .before .before .before in let o = c .before .before .open-at in num-at k.Range (now (b .args .s)) (b .args .p) (o .result) (o .ensures) (b .pre) 3 (omega arith)
+num-of-requires c κs = let b = c .before .before .before .before in let o = c .before .before .open-at in (omega arith, sized-at k.Range (now (b .args .s)) (b .args .p) (o .result) (o .ensures) (b .pre))
 
 num-of-requires-2 : tie.Need-num-of-requires-2
-num-of-requires-2 c κs = let b = c .before .before .before .before .before in let o = c .before .before .before .open-at in num-at k.Range (now (b .args .s)) (b .args .p) (o .result) (o .ensures) (b .pre) 4 (omega arith)
+num-of-requires-2 c κs = let b = c .before .before .before .before .before in let o = c .before .before .before .open-at in (omega arith, sized-at k.Range (now (b .args .s)) (b .args .p) (o .result) (o .ensures) (b .pre))
 
 num-of-requires-3 : tie.Need-num-of-requires-3
-num-of-requires-3 c κs = let b = c .before .before .before .before .before .before in let o = c .before .before .before .before .open-at in num-at k.Range (now (b .args .s)) (b .args .p) (o .result) (o .ensures) (b .pre) 5 (omega arith)
+num-of-requires-3 c κs = let b = c .before .before .before .before .before .before in let o = c .before .before .before .before .open-at in (omega arith, sized-at k.Range (now (b .args .s)) (b .args .p) (o .result) (o .ensures) (b .pre))
 
 num-of-requires-4 : tie.Need-num-of-requires-4
-num-of-requires-4 c κs = let b = c .before .before .before .before .before .before .before in let o = c .before .before .before .before .before .open-at in num-at k.Range (now (b .args .s)) (b .args .p) (o .result) (o .ensures) (b .pre) 6 (omega arith)
+num-of-requires-4 c κs = let b = c .before .before .before .before .before .before .before in let o = c .before .before .before .before .before .open-at in (omega arith, sized-at k.Range (now (b .args .s)) (b .args .p) (o .result) (o .ensures) (b .pre))
 
 returns : tie.Need-returns
 returns c =

@@ -4,7 +4,7 @@ use mathlib.Core.Path.{refl}
 use borrow.Author.Needs.{needs}
 use Rattle.tree.specs.declared.Kind.the-variants as k
 use Rattle.lookups.specs.Views.{bytesAt}
-use Rattle.requests.proofs.Levels.{level-at, num-at}
+use Rattle.requests.proofs.Levels.{level-at, sized-at}
 use Rattle.requests.proofs.read_setup.Statement.{statement}
 use Rattle.requests.proofs.read_setup.Tie as tie
 
@@ -12,7 +12,7 @@ open-at-requires : tie.Need-open-at-requires
 open-at-requires c κs = search needs
 
 num-of-requires : tie.Need-num-of-requires
-num-of-requires c κs = let b = c .before .before in let o = c .open-at in num-at k.Setup (now (b .args .s)) (b .args .p) (o .result) (o .ensures) (b .pre) 1 (omega arith)
+num-of-requires c κs = let b = c .before .before in let o = c .open-at in (omega arith, sized-at k.Setup (now (b .args .s)) (b .args .p) (o .result) (o .ensures) (b .pre))
 
 returns : tie.Need-returns
 returns c =

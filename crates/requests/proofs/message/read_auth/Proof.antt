@@ -4,7 +4,7 @@ use mathlib.Core.Path.{refl}
 use borrow.Author.Needs.{needs}
 use Rattle.tree.specs.declared.Kind.the-variants as k
 use Rattle.lookups.specs.Views.{bytesAt}
-use Rattle.requests.proofs.Levels.{level-at, num-at, part-at}
+use Rattle.requests.proofs.Levels.{level-at, part-at, sized-at}
 use Rattle.requests.proofs.message.read_auth.Statement.{statement}
 use Rattle.requests.proofs.message.read_auth.Tie as tie
 
@@ -12,7 +12,7 @@ open-at-requires : tie.Need-open-at-requires
 open-at-requires c κs = search needs
 
 num-of-requires : tie.Need-num-of-requires
-num-of-requires c κs = let b = c .before .before in let o = c .open-at in num-at k.HmacAuth (now (b .args .s)) (b .args .p) (o .result) (o .ensures) (b .pre) 1 (omega arith)
+num-of-requires c κs = let b = c .before .before in let o = c .open-at in (omega arith, sized-at k.HmacAuth (now (b .args .s)) (b .args .p) (o .result) (o .ensures) (b .pre))
 
 part-of-requires : tie.Need-part-of-requires
 part-of-requires c κs = let b = c .before .before .before in let o = c .before .open-at in part-at k.HmacAuth (now (b .args .s)) (b .args .p) (o .result) (o .ensures) (b .pre) 2 (omega arith) refl

@@ -4,7 +4,7 @@ use mathlib.Core.Path.{refl}
 use borrow.Author.Needs.{needs}
 use Rattle.tree.specs.declared.Kind.the-variants as k
 use Rattle.lookups.specs.Views.{bytesAt}
-use Rattle.requests.proofs.Levels.{level-at, num-at, part-at, sub-at, sub-reads}
+use Rattle.requests.proofs.Levels.{level-at, part-at, sized-at, sub-at, sub-reads}
 use Rattle.requests.proofs.Sealing.{sealed-law}
 use Rattle.requests.proofs.message.read_sealed.Statement.{statement}
 use Rattle.requests.proofs.message.read_sealed.Tie as tie
@@ -13,7 +13,7 @@ open-at-requires : tie.Need-open-at-requires
 open-at-requires c κs = search needs
 
 num-of-requires : tie.Need-num-of-requires
-num-of-requires c κs = let b = c .before .before in let o = c .open-at in num-at k.Message (now (b .args .s)) (b .args .p) (o .result) (o .ensures) (b .pre) 4 (omega arith)
+num-of-requires c κs = let b = c .before .before in let o = c .open-at in (omega arith, sized-at k.Message (now (b .args .s)) (b .args .p) (o .result) (o .ensures) (b .pre))
 
 part-of-requires : tie.Need-part-of-requires
 part-of-requires c κs = let b = c .before .before .before in let o = c .before .open-at in part-at k.Message (now (b .args .s)) (b .args .p) (o .result) (o .ensures) (b .pre) 5 (omega arith) refl

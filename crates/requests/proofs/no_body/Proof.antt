@@ -1,0 +1,21 @@
+use Rattle.tree.specs.declared.Kind.the-variants as k
+use Rattle.lookups.proofs.Slotted.{lies-no}
+use Rattle.requests.proofs.Levels.{no-reads}
+use Rattle.requests.proofs.no_body.Statement.{statement}
+use Rattle.requests.proofs.no_body.Tie as tie
+
+returns : tie.Need-returns
+returns c s =
+    let l = lies-no s in
+    record {
+      entry = record { version = l; key = l; expected = l; tag = l };
+      range = record { start = l; end = l };
+      security = l;
+      reads = no-reads k.Security s;
+    }
+
+pub no-body-spec : {M : Type 1} → statement M
+no-body-spec =
+    tie.close
+    (tie.spec
+    returns)
