@@ -1,5 +1,6 @@
 // A message and a command by value: what their fields say, and where their parts lie.
 pub mod message;
+pub mod numbers;
 
 ghost use mathlib.Core.Path.{_≡_};
 ghost use mathlib.Core.List.{List};

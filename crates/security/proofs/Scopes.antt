@@ -91,10 +91,10 @@ module _ {s : List ℕ} {p value : Part} {offset : ℕ} {tls : Bool} {held : Per
       let c = scopeIn s p in
       refused r e (taken-test c ∙ ap (λ (b : Bool). both b (both (leb (c .offset) 64) (both (leb (length (c .value)) 64) (maskGood (maskOf (c .permissions)))))) (sym (f .held-is .ok) ∙ n))
 
-  pub scope-far : 64 < offset → (r : ReadScope) → r ≡ refusedScope value → ScopeIs s (scopeIn s p) r
+  pub scope-far : leb offset 64 ≡ false → (r : ReadScope) → r ≡ refusedScope value → ScopeIs s (scopeIn s p) r
   scope-far n r e =
       let c = scopeIn s p in
-      let x : leb (c .offset) 64 ≡ false = ap (λ (k : ℕ). leb k 64) (sym (f .offset-is)) ∙ lt-leb offset 64 n in
+      let x : leb (c .offset) 64 ≡ false = ap (λ (k : ℕ). leb k 64) (sym (f .offset-is)) ∙ n in
       refused r e (taken-test c ∙ ap (λ (b : Bool). both (permissionsGood c) (both b (both (leb (length (c .value)) 64) (maskGood (maskOf (c .permissions)))))) x ∙ both-false (permissionsGood c))
 
   value-length : length (scopeIn s p .value) ≡ value .len
@@ -106,11 +106,11 @@ module _ {s : List ℕ} {p value : Part} {offset : ℕ} {tls : Bool} {held : Per
       let x : leb (length (c .value)) 64 ≡ false = ap (λ (k : ℕ). leb k 64) value-length ∙ lt-leb (value .len) 64 n in
       refused r e (taken-test c ∙ ap (λ (b : Bool). both (permissionsGood c) (both (leb (c .offset) 64) (both b (maskGood (maskOf (c .permissions)))))) x ∙ ap (both (permissionsGood c)) (both-false (leb (c .offset) 64)) ∙ both-false (permissionsGood c))
 
-  pub scope-read : held .ok ≡ true → offset ≤ 64 → value .len ≤ 64 → ScopeIs s (scopeIn s p) (record { ok = true; offset = offset; mask = held .mask; tls = tls; value = value })
+  pub scope-read : held .ok ≡ true → leb offset 64 ≡ true → value .len ≤ 64 → ScopeIs s (scopeIn s p) (record { ok = true; offset = offset; mask = held .mask; tls = tls; value = value })
   scope-read h o v =
       let c = scopeIn s p in
       let g : permissionsGood c ≡ true = sym (f .held-is .ok) ∙ h in
-      let x : leb (c .offset) 64 ≡ true = ap (λ (k : ℕ). leb k 64) (sym (f .offset-is)) ∙ le-leb offset 64 o in
+      let x : leb (c .offset) 64 ≡ true = ap (λ (k : ℕ). leb k 64) (sym (f .offset-is)) ∙ o in
       let y : leb (length (c .value)) 64 ≡ true = ap (λ (k : ℕ). leb k 64) value-length ∙ le-leb (value .len) 64 v in
       let rest : both (leb (c .offset) 64) (both (leb (length (c .value)) 64) (maskGood (maskOf (c .permissions)))) ≡ true =
       ap₂ (λ (a b : Bool). both a (both b (maskGood (maskOf (c .permissions))))) x y ∙ good-mask c g in

@@ -1,6 +1,7 @@
 // The Security part of a command: judged by the ACL rules and written as a device record.
 ghost use mathlib.Core.Path.{_≡_};
 ghost use Prim.Native.Nat.{_<_};
+ghost use lib.Dec.{leb};
 ghost use Rattle.lookups.specs.Views.{numView};
 ghost use Rattle.protocol.specs.Command.{orElse, flag, mapL};
 ghost use Rattle.protocol.specs.Judge.{wantedScope, wantedAcl, wanted, securityGood, algorithmsGood};
@@ -21,7 +22,10 @@ use lookups::parts::open_at;
 use lookups::parts::part_of;
 use lookups::repeated::next_num;
 use lookups::repeated::next_part;
+use requests::numbers::flag_of;
+use requests::numbers::number_or;
 use tree::Kind;
+use wire::signed::signed;
 
 // Whether the permissions of a scope are good, and if so their set.
 pub struct Permissions {
@@ -62,26 +66,6 @@ pub fn permissions_of(s: &[u8], p: Part) -> Permissions
 
 // ---- a scope
 
-fn number_or(n: Num, absent: u64) -> u64
-    ensures { λ r. ⌜ r ≡ orElse absent (numView n) ⌝ }
-{
-    let has = n.has;
-    if has {
-        return n.value;
-    }
-    absent
-}
-
-fn flag_of(n: Num) -> bool
-    ensures { λ r. ⌜ r ≡ flag (numView n) ⌝ }
-{
-    let has = n.has;
-    if has {
-        return n.value != 0;
-    }
-    false
-}
-
 // A scope that keeps the rules, as the record holds it; ok is false where it breaks one.
 pub struct ReadScope {
     pub ok: bool,
@@ -103,6 +87,20 @@ fn refused_scope(value: Part) -> ReadScope
     }
 }
 
+// Is the offset, as a signed number, from 0 to 64?
+fn offset_good(offset: u64) -> bool
+    ensures { λ r. ⌜ r ≡ leb offset 64 ⌝ }
+{
+    let number = signed(offset);
+    if number < 0 {
+        return false;
+    }
+    if 64 < number {
+        return false;
+    }
+    true
+}
+
 // The scope in the part p.
 pub fn read_scope(s: &[u8], p: Part) -> ReadScope
     requires { ⌜ StandsScope (now s) p ⌝ }
@@ -117,7 +115,7 @@ pub fn read_scope(s: &[u8], p: Part) -> ReadScope
     if !ok {
         return refused_scope(value);
     }
-    if 64 < offset {
+    if !offset_good(offset) {
         return refused_scope(value);
     }
     if 64 < value.len {

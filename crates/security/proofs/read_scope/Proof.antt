@@ -1,7 +1,10 @@
+use Prim.Native.Nat.{_≤_}
 use native.Mathlib.Omega.{arith}
-use mathlib.Core.Path.{refl}
+use mathlib.Core.Path.{_≡_, refl, sym, _∙_}
+use mathlib.Core.Bool.{true}
+use lib.Dec.{leb}
 use denote.Ref.{now}
-use borrow.Author.Tests.{not-true, not-false}
+use borrow.Author.Tests.{not-true, not-false, leb-true}
 use Rattle.tree.specs.declared.Kind.the-variants as kind
 use Rattle.lookups.specs.Views.{Level, bytesAt}
 use Rattle.lookups.proofs.Slotted.{level-sized, part-ready}
@@ -52,23 +55,33 @@ refused-scope-requires c κs = search needs
 returns : tie.Need-returns
 returns c = scope-unnamed (facts (c .before .before)) (not-true _ (c .before .if1 .taken)) (c .refused-scope .result) (c .refused-scope .ensures)
 
+offset-good-requires : tie.Need-offset-good-requires
+offset-good-requires c κs = search needs
+
 refused-scope-requires-2 : tie.Need-refused-scope-requires-2
 refused-scope-requires-2 c κs = search needs
 
 returns-2 : tie.Need-returns-2
-returns-2 c = scope-far (facts (c .before .before .before)) (c .before .if2 .taken) (c .refused-scope2 .result) (c .refused-scope2 .ensures)
+returns-2 c = let o = c .before .before in scope-far (facts (o .before .before)) (sym (o .offset-good .ensures) ∙ not-true _ (c .before .if2 .taken)) (c .refused-scope2 .result) (c .refused-scope2 .ensures)
 
 refused-scope-requires-3 : tie.Need-refused-scope-requires-3
 refused-scope-requires-3 c κs = search needs
 
 returns-3 : tie.Need-returns-3
-returns-3 c = scope-long (facts (c .before .before .before .before .before)) (c .before .if3 .taken) (c .refused-scope3 .result) (c .refused-scope3 .ensures)
+returns-3 c = scope-long (facts (c .before .before .before .before .before .before)) (c .before .if3 .taken) (c .refused-scope3 .result) (c .refused-scope3 .ensures)
 
-cast-t12 : tie.Need-cast-t12
-cast-t12 c = let h = c .before .before .if2 .left in omega arith
+near : (c : tie.Else2) → leb (c .before .before .before .before .before .before .number-or .result) 64 ≡ true
+near c = sym (c .before .offset-good .ensures) ∙ not-false _ (c .if2 .left)
+
+cast-t13 : tie.Need-cast-t13
+cast-t13 c =
+    let o = c .before .before in
+    let n = o .before .before .before .before .before .before .number-or .result in
+    let h : n ≤ 64 = leb-true n 64 (near o) in
+    omega arith
 
 returns-4 : tie.Need-returns-4
-returns-4 c = scope-read (facts (c .before .before .before .before)) (not-false _ (c .before .before .before .if1 .left)) (c .before .before .if2 .left) (c .if3 .left)
+returns-4 c = let o = c .before .before in let l = o .before .before in scope-read (facts (l .before)) (not-false _ (l .if1 .left)) (near o) (c .if3 .left)
 
 pub read-scope-spec : {M : Type 1} → statement M
 read-scope-spec =
@@ -83,9 +96,10 @@ read-scope-spec =
     permissions-of-requires
     refused-scope-requires
     returns
+    offset-good-requires
     refused-scope-requires-2
     returns-2
     refused-scope-requires-3
     returns-3
-    cast-t12
+    cast-t13
     returns-4)

@@ -2,8 +2,8 @@ use mathlib.Core.Path.{sym, ap}
 use mathlib.Core.Bool.{Bool}
 use Rattle.tree.specs.Tree.{guard}
 use Rattle.protocol.specs.Command.{flag}
-use Rattle.security.proofs.flag_of.Statement.{statement}
-use Rattle.security.proofs.flag_of.Tie as tie
+use Rattle.requests.proofs.numbers.flag_of.Statement.{statement}
+use Rattle.requests.proofs.numbers.flag_of.Tie as tie
 
 returns : tie.Need-returns
 returns c = ap (λ (b : Bool). flag (guard b (c .before .before .args .n .value))) (sym (c .before .if1 .taken))
