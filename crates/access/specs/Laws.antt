@@ -44,7 +44,7 @@ pub within-high : (a b n : ℕ) → within a b n ≡ true → n ≤ b
 within-high a b n e = leb-true n b (both-snd (leb a n) (leb n b) e)
 
 -- ---- as many as asked for
-length-bytesAt : (l : List ℕ) (a n : ℕ) → length (bytesAt l a n) ≡ n
+pub length-bytesAt : (l : List ℕ) (a n : ℕ) → length (bytesAt l a n) ≡ n
 unfolding bytesAt
 length-bytesAt l a zero = refl
 length-bytesAt l a (suc n) = ap suc (length-bytesAt l (a + 1) n)

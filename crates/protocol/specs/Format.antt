@@ -1,6 +1,6 @@
 -- Document 01, "What the box does", Format: "makes the device record and a store of blank blocks. The one ACL is identity 1, a key from the
 -- host, one scope with every permission, cluster version 0." "Format gives 2 only for the store's length, then 6; it ignores old contents."
-use mathlib.Core.Bool.{Bool, true, false}
+use mathlib.Core.Bool.{Bool}
 use mathlib.Core.List.{List}
 use mathlib.Core.Path.{_≡_}
 use Prim.Native.Nat.{ℕ, _*_}

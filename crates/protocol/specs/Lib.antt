@@ -27,3 +27,4 @@ pub mod ReplySize
 pub mod Demand3Shown
 pub mod Format
 pub mod FormatLaws
+pub mod Refusals

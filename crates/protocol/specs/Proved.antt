@@ -85,7 +85,7 @@ same-bytes (a ∷ x) (b ∷ y) e = go (eqb a b) refl e (λ q. same-bytes x y q)
     go true p q f = let h : a ≡ b = eqb-true a b p in let g : x ≡ y = f q in cc
     go false p q f = clash (cc)
 
-bytes-same : (a : List ℕ) → sameBytes a a ≡ true
+pub bytes-same : (a : List ℕ) → sameBytes a a ≡ true
 bytes-same [] = refl
 bytes-same (a ∷ x) = rw (eq-eqb a a refl) (bytes-same x)
 

@@ -20,6 +20,10 @@ pub record State : Type 0 where
   pub device : List ℕ
   pub connection : Connection
 
+-- the three together
+abbrev pub lent : List ℕ → List ℕ → Connection → State
+lent store device c = record { store = store; device = device; connection = c }
+
 abbrev pub table : State → Table
 table s = tableOf (s .device)
 

@@ -1,24 +1,26 @@
 -- One law for each level.
-use Prim.Native.Nat.{ℕ, _<_}
+use Prim.Native.Nat.{ℕ, _≤_, _<_}
 use native.Mathlib.Omega.{arith}
 use mathlib.Core.Path.{_≡_, refl, sym, ap, _∙_}
-use mathlib.Core.List.{List}
+use mathlib.Core.List.{List, []}
 use mathlib.Core.Option.{Option, none, some}
 use mathlib.Core.Bool.{true, false}
 use Rattle.tree.specs.Rules.{ruleOf}
-use Rattle.tree.specs.Tree.{mapO, isSome, level, listed, Tree, subAt}
+use Rattle.tree.specs.Tree.{mapO, guard, isSome, level, listed, Tree, done, subAt}
 use Rattle.fields.specs.Slots.{Tells, Sized}
 use Rattle.tree.specs.declared.Kind.{Kind}
 use Rattle.tree.specs.declared.Kind.the-variants as k
 use Rattle.tree.specs.declared.Form.the-variants.{Nested}
 use Rattle.tree.specs.declared.Rule.the-variants.{Single}
 use Rattle.fields.specs.declared.slots.Slots.{Slots}
-use Rattle.lookups.specs.Views.{orDone, Reads, treeOf, bytesAt, numView, noPart, Inside, Level, SlotInside, NumIs, PartIs, Sub}
+use Rattle.lookups.specs.Views.{orDone, orEmpty, Reads, treeOf, bytesAt, numView, partView, noPart, Inside, Lies, Level, SlotInside, NumIs, PartIs, Sub}
 use Rattle.lookups.specs.LevelLaws.{tree-is}
 use Rattle.lookups.specs.declared.parts.Num.{Num}
 use Rattle.lookups.specs.declared.parts.Part.{Part}
 use Rattle.lookups.proofs.Slotted.{isPart, level-sized, part-ready, sub-view, nil-at, nil-reads}
 use Rattle.protocol.specs.Command.{orElse, noBody, headerOf, keyValueOf, rangeOf, setupOf, securityOf, bodyOf, commandOf}
+use Rattle.protocol.specs.Judge.{noKeyValue, noRange}
+use Rattle.requests.proofs.Algorithm.{algorithm-most}
 use Rattle.requests.specs.Views.{headerView, keyValueView, rangeView, bodyView, requestView}
 use Rattle.requests.specs.declared.Header.{Header}
 use Rattle.requests.specs.declared.KeyValue.{KeyValue}
@@ -62,6 +64,37 @@ module _ (s : List ℕ) (p : Part) (t : Slots) where
   range-law y a1 a2 a3 a4 a5 a6 e1 e2 e3 e4 e5 e6 =
       let m = bytesAt s p in
       rw (e1 .bytes k.Range y refl, e2 .bytes k.Range y refl, e3 k.Range m y refl, e4 k.Range m y refl, e5 k.Range m y refl, e6 k.Range m y refl) refl
+
+  pub algorithm-law : Level k.KeyValue (bytesAt s p) t → (a6 : Num) → NumIs t 6 a6 → orElse 0 (numView a6) ≤ 6
+  algorithm-law y a6 e6 = let m = bytesAt s p in rw (e6 k.KeyValue m y refl) (algorithm-most m (y .reads))
+
+-- the bytes of a message, which are empty where it is not there: those of their part
+pub bytes-there : {A : Type 0} (f : Tree → A) (z : A) (g : A → List ℕ) → g (f done) ≡ g z
+    → (k : Kind) (s : List ℕ) (a : Part) (o : Option Tree) (x : A) (p : Part) → Sub k s a o → x ≡ f (treeOf k (bytesAt s a)) → Lies s p → g x ≡ orElse [] (partView s p)
+    → g (orElse z (guard (a .has) x)) ≡ bytesAt s p
+bytes-there f z g n k s a o x p u e l q =
+    ap (λ v. g (orElse z v)) (sub-view f x u e) ∙ go o ∙ sym (ap g (e ∙ ap f (u .tree))) ∙ q ∙ whole (partView s p) (l .empty)
+  where
+    go : (o : Option Tree) → g (orElse z (mapO f o)) ≡ g (f (orDone o))
+    go none = sym n
+    go (some t) = refl
+
+    whole : (o : Option (List ℕ)) → bytesAt s p ≡ orEmpty o → orElse [] o ≡ bytesAt s p
+    whole none e = sym e
+    whole (some b) e = sym e
+
+module _ (s : List ℕ) (a : Part) (o : Option Tree) where
+  pub key-there : (x : KeyValue) → Sub k.KeyValue s a o → keyValueView s x ≡ keyValueOf (treeOf k.KeyValue (bytesAt s a)) → Lies s (x .key)
+      → orElse noKeyValue (guard (a .has) (keyValueView s x)) .key ≡ bytesAt s (x .key)
+  key-there x u e l = bytes-there keyValueOf noKeyValue (λ v. v .key) refl k.KeyValue s a o (keyValueView s x) (x .key) u e l refl
+
+  pub start-there : (x : Range) → Sub k.Range s a o → rangeView s x ≡ rangeOf (treeOf k.Range (bytesAt s a)) → Lies s (x .start)
+      → orElse [] (orElse noRange (guard (a .has) (rangeView s x)) .startKey) ≡ bytesAt s (x .start)
+  start-there x u e l = bytes-there rangeOf noRange (λ v. orElse [] (v .startKey)) refl k.Range s a o (rangeView s x) (x .start) u e l refl
+
+  pub end-there : (x : Range) → Sub k.Range s a o → rangeView s x ≡ rangeOf (treeOf k.Range (bytesAt s a)) → Lies s (x .end)
+      → orElse [] (orElse noRange (guard (a .has) (rangeView s x)) .endKey) ≡ bytesAt s (x .end)
+  end-there x u e l = bytes-there rangeOf noRange (λ v. orElse [] (v .endKey)) refl k.Range s a o (rangeView s x) (x .end) u e l refl
 
 pub body-law : (s : List ℕ) (u : Tree) (a b c z : Part) (x : KeyValue) (y : Range) (w : Num)
     → Sub k.KeyValue s a (subAt 1 u) → keyValueView s x ≡ keyValueOf (treeOf k.KeyValue (bytesAt s a))

@@ -1,13 +1,15 @@
 -- What the structs of a command mean over the bytes that they point into, by the names of document 01's list.
 -- "Absent bytes are empty, flags false, clusterVersion and offset 0."
+use mathlib.Core.Path.{_≡_}
 use mathlib.Core.List.{List, []}
 use mathlib.Core.Option.{Option}
-use Prim.Native.Nat.{ℕ}
+use Prim.Native.Nat.{ℕ, _≤_}
 use Rattle.tree.specs.Tree.{guard}
 use Rattle.tree.specs.declared.Kind.the-variants.{Security}
 use Rattle.lookups.specs.Views.{numView, partView, bytesAt, Lies, Reads, treeOf}
 use Rattle.protocol.specs.Command as c
 use Rattle.protocol.specs.Command.{orElse, flag, securityOf}
+use Rattle.protocol.specs.Judge.{keyValueIn, rangeIn}
 use Rattle.requests.specs.declared.Header.{Header}
 use Rattle.requests.specs.declared.KeyValue.{KeyValue}
 use Rattle.requests.specs.declared.Range.{Range}
@@ -35,12 +37,13 @@ keyValueView s k =
       force = flag (numView (k .force));
     }
 
--- every part lies inside the command, and is empty where there is none
+-- every part lies inside the command, and is empty where there is none; an algorithm is one of 1 to 6, and 0 where there is none
 pub record KeyValueLies (s : List ℕ) (k : KeyValue) : Type 0 where
   pub version : Lies s (k .version)
   pub key : Lies s (k .key)
   pub expected : Lies s (k .expected)
   pub tag : Lies s (k .tag)
+  pub algorithm : orElse 0 (numView (k .algorithm)) ≤ 6
 
 -- "maxReturned 0 to 32, absent means 32"
 abbrev pub rangeView : List ℕ → Range → c.Range
@@ -68,11 +71,15 @@ bodyView s b =
       security = guard (b .security .has) (securityOf (treeOf Security (bytesAt s (b .security))));
     }
 
+-- the keys of a keyValue or range that is not there are empty
 pub record BodyLies (s : List ℕ) (b : Body) : Type 0 where
   pub entry : KeyValueLies s (b .entry)
   pub range : RangeLies s (b .range)
   pub security : Lies s (b .security)
   pub reads : Reads Security (bytesAt s (b .security))
+  pub key : keyValueIn (bodyView s b) .key ≡ bytesAt s (b .entry .key)
+  pub start : orElse [] (rangeIn (bodyView s b) .startKey) ≡ bytesAt s (b .range .start)
+  pub end : orElse [] (rangeIn (bodyView s b) .endKey) ≡ bytesAt s (b .range .end)
 
 -- none where the command does not decode
 abbrev pub requestView : List ℕ → Request → Option c.Command

@@ -2,8 +2,7 @@
 ghost use mathlib.Core.Path.{_≡_};
 ghost use Prim.Native.Nat.{_<_};
 ghost use lib.Dec.{leb};
-ghost use Rattle.lookups.specs.Views.{numView};
-ghost use Rattle.protocol.specs.Command.{orElse, flag, mapL};
+ghost use Rattle.protocol.specs.Command.{mapL};
 ghost use Rattle.protocol.specs.Judge.{wantedScope, wantedAcl, wanted, securityGood, algorithmsGood};
 ghost use Rattle.access.specs.Record.{tableBytes};
 ghost use Rattle.access_write.specs.Write.{putScope, putScopes, putAcls};
@@ -15,7 +14,6 @@ use access_write::add_scope;
 use access_write::clear_table;
 use access_write::is_permission;
 use access_write::with_permission;
-use lookups::parts::Num;
 use lookups::parts::Part;
 use lookups::parts::num_of;
 use lookups::parts::open_at;

@@ -4,10 +4,6 @@ use Rattle.protocol.specs.FormatLaws.{size-short, size-long, size-odd, size-rig
 use borrow.Author.Needs.{needs}
 use Rattle.device.proofs.format.Statement.{statement}
 use Rattle.device.proofs.format.Tie as tie
-use Rattle.device.proofs.format.Reads as reads
-use Rattle.device.proofs.format.Lts as lts
-use Rattle.access_write.proofs.format_record.Reads as format-record-reads
-use Rattle.store.proofs.blank.Reads as blank-reads
 
 returns : tie.Need-returns
 returns c = store-bad _ _ _ (size-short _ (omega arith))

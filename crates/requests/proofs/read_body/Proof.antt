@@ -3,8 +3,9 @@ use native.Mathlib.Omega.{arith}
 use mathlib.Core.Path.{refl}
 use borrow.Author.Needs.{needs}
 use Rattle.tree.specs.declared.Kind.the-variants as k
+use Rattle.tree.specs.Tree.{subAt}
 use Rattle.lookups.specs.Views.{bytesAt, treeOf}
-use Rattle.requests.proofs.Levels.{body-law, part-at, sub-at, sub-reads}
+use Rattle.requests.proofs.Levels.{body-law, end-there, key-there, part-at, start-there, sub-at, sub-reads}
 use Rattle.requests.proofs.read_body.Statement.{statement}
 use Rattle.requests.proofs.read_body.Tie as tie
 
@@ -45,13 +46,22 @@ returns c =
     let x3 = c .before .before .before .part-of4 in
     let x4 = c .before .before .read-key-value in
     let x5 = c .before .read-range in
-    let x6 = c .read-setup in (
-      body-law s (treeOf k.Body (bytesAt s p)) (x0 .result) (x1 .result) (x2 .result) (x3 .result) (x4 .result) (x5 .result) (x6 .result)
-          (sub-at k.Body s p t (o .ensures) (b .pre) 1 k.KeyValue refl (x0 .result) (x0 .ensures)) (x4 .ensures .0)
-          (sub-at k.Body s p t (o .ensures) (b .pre) 2 k.Range refl (x1 .result) (x1 .ensures)) (x5 .ensures .0)
-          (sub-at k.Body s p t (o .ensures) (b .pre) 3 k.Setup refl (x2 .result) (x2 .ensures)) (x6 .ensures)
-          (sub-at k.Body s p t (o .ensures) (b .pre) 7 k.Security refl (x3 .result) (x3 .ensures)),
-      record { entry = x4 .ensures .1; range = x5 .ensures .1; security = x3 .ensures .lies; reads = (sub-at k.Body s p t (o .ensures) (b .pre) 7 k.Security refl (x3 .result) (x3 .ensures)) .reads },
+    let x6 = c .read-setup in
+    let u = treeOf k.Body (bytesAt s p) in
+    let y0 = sub-at k.Body s p t (o .ensures) (b .pre) 1 k.KeyValue refl (x0 .result) (x0 .ensures) in
+    let y1 = sub-at k.Body s p t (o .ensures) (b .pre) 2 k.Range refl (x1 .result) (x1 .ensures) in
+    let y2 = sub-at k.Body s p t (o .ensures) (b .pre) 3 k.Setup refl (x2 .result) (x2 .ensures) in
+    let y3 = sub-at k.Body s p t (o .ensures) (b .pre) 7 k.Security refl (x3 .result) (x3 .ensures) in (
+      body-law s u (x0 .result) (x1 .result) (x2 .result) (x3 .result) (x4 .result) (x5 .result) (x6 .result) y0 (x4 .ensures .0) y1 (x5 .ensures .0) y2 (x6 .ensures) y3,
+      record {
+        entry = x4 .ensures .1;
+        range = x5 .ensures .1;
+        security = x3 .ensures .lies;
+        reads = y3 .reads;
+        key = key-there s (x0 .result) (subAt 1 u) (x4 .result) y0 (x4 .ensures .0) (x4 .ensures .1 .key);
+        start = start-there s (x1 .result) (subAt 2 u) (x5 .result) y1 (x5 .ensures .0) (x5 .ensures .1 .start);
+        end = end-there s (x1 .result) (subAt 2 u) (x5 .result) y1 (x5 .ensures .0) (x5 .ensures .1 .end);
+      },
     )
 
 pub read-body-spec : {M : Type 1} → statement M

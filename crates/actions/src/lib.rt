@@ -1,0 +1,280 @@
+// Step 10: each operation done, and its reply written.
+use access::Record;
+use lookups::parts::Num;
+use lookups::parts::Part;
+use operations::Shown;
+use protocol::Operation;
+use requests::Body;
+use requests::KeyValue;
+use requests::Range;
+use requests::numbers::flag_of;
+use requests::numbers::number_or;
+use sending::Address;
+use sending::ack;
+use sending::status;
+use sending::version;
+use store::Parts;
+ghost use mathlib.Core.Path.{_≡_};
+ghost use mathlib.Core.Bool.{true, false};
+ghost use mathlib.Core.List.{List, []};
+ghost use Prim.Native.Nat.{ℕ, _≤_};
+ghost use lib.Dec.{eqb};
+ghost use lib.ListN.{length};
+ghost use Rattle.store.specs.Store.{Good};
+ghost use Rattle.wire.specs.Reader.{choose};
+ghost use Rattle.lookups.specs.Views.{numView};
+ghost use Rattle.protocol.specs.State.{Connection, State, entries, lent, withStore, withDevice};
+ghost use Rattle.protocol.specs.Judge.{fails, succeeds, shown, versionShown, entryOf, put, deleteBy, range, keysOf, keyValueGood, setUp, secure, securityGood, fault, step10, changed};
+ghost use Rattle.operations.specs.declared.Shown.the-variants.{Found};
+ghost use Rattle.operations.specs.Given.{PartsInside, Showing, entryShown};
+ghost use Rattle.requests.specs.Views.{BodyLies, KeyValueLies, RangeLies, bodyView, keyValueView, rangeView};
+ghost use Rattle.security.specs.Security.{StandsSecurity, aclsIn};
+ghost use Rattle.actions.specs.Sought.{sought};
+ghost use Rattle.sending.specs.Sent.{Sent, replied};
+
+// ---- GET, GETVERSION, GETNEXT, GETPREVIOUS
+
+// The length of a value, none of it with metadataOnly.
+fn shown_length(metadata: bool, len: usize) -> usize
+    ensures { λ r. ⌜ (r ≡ choose metadata 0 len) × (r ≤ len) ⌝ }
+{
+    if metadata {
+        return 0;
+    }
+    len
+}
+
+// An entry, or NOT_FOUND.
+fn show(out: &mut [u8], by: &[u8], a: Address, store: &[u8], found: Shown, metadata: bool) -> usize
+    requires { ⌜ (4096 ≤ length (now out)) × (length (now by) ≤ 64) × PartsInside (now store) found ⌝ }
+    ensures { λ r. ⌜ ((s : State) → Sent (replied a (now (by .entry)) (shown s metadata (entryShown (now (store .entry)) found))) r (now (out .entry)) (now (out .exit)) s) ⌝ }
+{
+    match found {
+        Shown::Found(p) => show_entry(out, by, a, store, p, metadata),
+        Shown::Missing => status(out, by, a, 7),
+    }
+}
+
+fn show_entry(
+    out: &mut [u8],
+    by: &[u8],
+    a: Address,
+    store: &[u8],
+    p: Parts,
+    metadata: bool,
+) -> usize
+    requires { ⌜ (4096 ≤ length (now out)) × (length (now by) ≤ 64) × PartsInside (now store) (Found p) ⌝ }
+    ensures { λ r. ⌜ ((s : State) → Sent (replied a (now (by .entry)) (shown s metadata (entryShown (now (store .entry)) (Found p)))) r (now (out .entry)) (now (out .exit)) s) ⌝ }
+{
+    let key = p.key.start;
+    let version = p.version.start;
+    let tag = p.tag.start;
+    let value = p.value.start;
+    replies::put_key_value(
+        out,
+        by,
+        a.identity,
+        a.connection,
+        ack(a),
+        a.kind,
+        &store[key..key + p.key.len],
+        &store[version..version + p.version.len],
+        &store[tag..tag + p.tag.len],
+        p.algorithm as u64,
+        &store[value..value + shown_length(metadata, p.value.len)],
+    )
+}
+
+// The version of an entry, or NOT_FOUND.
+fn show_version(out: &mut [u8], by: &[u8], a: Address, store: &[u8], found: Shown) -> usize
+    requires { ⌜ (4096 ≤ length (now out)) × (length (now by) ≤ 64) × PartsInside (now store) found ⌝ }
+    ensures { λ r. ⌜ ((s : State) → Sent (replied a (now (by .entry)) (versionShown s (entryShown (now (store .entry)) found))) r (now (out .entry)) (now (out .exit)) s) ⌝ }
+{
+    match found {
+        Shown::Found(p) => {
+            let start = p.version.start;
+            let end = start + p.version.len;
+            version(out, by, a, &store[start..end])
+        }
+        Shown::Missing => status(out, by, a, 7),
+    }
+}
+
+// Which entry is asked for by a key: the key's own, the next or the previous one.
+enum Which {
+    Own,
+    Next,
+    Previous,
+}
+
+fn find_entry(which: Which, store: &[u8], key: &[u8]) -> Shown
+    requires { ⌜ Good (now store) ⌝ }
+    ensures { λ r. ⌜ Showing (now (store .entry)) r (λ s. sought which s (now (key .entry))) ⌝ }
+{
+    match which {
+        Which::Own => operations::get(store, key),
+        Which::Next => operations::get_next(store, key),
+        Which::Previous => operations::get_previous(store, key),
+    }
+}
+
+fn get(
+    out: &mut [u8],
+    by: &[u8],
+    a: Address,
+    which: Which,
+    store: &[u8],
+    s: &[u8],
+    k: KeyValue,
+) -> usize
+    requires { ⌜ (4096 ≤ length (now out)) × (length (now by) ≤ 64) × Good (now store) × KeyValueLies (now s) k ⌝ }
+    ensures { λ r. ⌜ ((t : State) → t .store ≡ now (store .entry) → Sent (replied a (now (by .entry)) (shown t (keyValueView (now (s .entry)) k .metadataOnly) (sought which t (keyValueView (now (s .entry)) k .key)))) r (now (out .entry)) (now (out .exit)) t) ⌝ }
+{
+    let start = k.key.start;
+    let end = start + k.key.len;
+    let found = find_entry(which, store, &s[start..end]);
+    show(out, by, a, store, found, flag_of(k.metadata))
+}
+
+fn get_version(out: &mut [u8], by: &[u8], a: Address, store: &[u8], s: &[u8], k: KeyValue) -> usize
+    requires { ⌜ (4096 ≤ length (now out)) × (length (now by) ≤ 64) × Good (now store) × KeyValueLies (now s) k ⌝ }
+    ensures { λ r. ⌜ ((t : State) → t .store ≡ now (store .entry) → Sent (replied a (now (by .entry)) (versionShown t (entryOf t (keyValueView (now (s .entry)) k .key)))) r (now (out .entry)) (now (out .exit)) t) ⌝ }
+{
+    let start = k.key.start;
+    let end = start + k.key.len;
+    show_version(out, by, a, store, operations::get(store, &s[start..end]))
+}
+
+fn get_key_range(out: &mut [u8], by: &[u8], a: Address, store: &[u8], s: &[u8], g: Range) -> usize
+    requires { ⌜ (4096 ≤ length (now out)) × (length (now by) ≤ 64) × Good (now store) × RangeLies (now s) g × (rangeView (now s) g .maxReturned ≤ 32) ⌝ }
+    ensures { λ r. ⌜ ((t : State) → t .store ≡ now (store .entry) → Sent (replied a (now (by .entry)) (succeeds t (range (keysOf (rangeView (now (s .entry)) g) (entries t))) [])) r (now (out .entry)) (now (out .exit)) t) ⌝ }
+{
+    let start = g.start.start;
+    let end = g.end.start;
+    range_replies::put_key_range(
+        out,
+        by,
+        a.identity,
+        a.connection,
+        ack(a),
+        a.kind,
+        store,
+        &s[start..start + g.start.len],
+        &s[end..end + g.end.len],
+        flag_of(g.first),
+        flag_of(g.last),
+        number_or(g.limit, 32) as usize,
+        flag_of(g.reverse),
+    )
+}
+
+// ---- PUT, DELETE
+
+// The reply of PUT and DELETE: an empty keyValue on success. Where the code is another the store is as it was.
+fn changed(out: &mut [u8], by: &[u8], a: Address, code: u64) -> usize
+    requires { ⌜ (4096 ≤ length (now out)) × (length (now by) ≤ 64) ⌝ }
+    ensures { λ r. ⌜ ((s : State) (l : List ℕ) → (eqb code 1 ≡ false → l ≡ s .store) → Sent (replied a (now (by .entry)) (choose (eqb code 1) (changed s l) (fails s code))) r (now (out .entry)) (now (out .exit)) (withStore s l)) ⌝ }
+{
+    if code != 1 {
+        return status(out, by, a, code);
+    }
+    let none = [0u8; 0];
+    version(out, by, a, &none)
+}
+
+fn put(
+    out: &mut [u8],
+    by: &[u8],
+    a: Address,
+    store: &mut [u8],
+    s: &[u8],
+    k: KeyValue,
+    value: &[u8],
+) -> usize
+    requires { ⌜ (4096 ≤ length (now out)) × (length (now by) ≤ 64) × Good (now store) × KeyValueLies (now s) k × (keyValueGood (keyValueView (now s) k) ≡ true) × (length (now value) ≤ 384) ⌝ }
+    ensures { λ r. ⌜ ((t : State) → t .store ≡ now (store .entry) → Sent (replied a (now (by .entry)) (put t (keyValueView (now (s .entry)) k) (now (value .entry)))) r (now (out .entry)) (now (out .exit)) (withStore t (now (store .exit)))) ⌝ }
+{
+    let key = k.key.start;
+    let new = k.version.start;
+    let old = k.expected.start;
+    let tag = k.tag.start;
+    let code = operations::put(
+        store,
+        &s[key..key + k.key.len],
+        &s[new..new + k.version.len],
+        &s[old..old + k.expected.len],
+        &s[tag..tag + k.tag.len],
+        number_or(k.algorithm, 0) as u8,
+        flag_of(k.force),
+        value,
+    );
+    changed(out, by, a, code)
+}
+
+fn delete(out: &mut [u8], by: &[u8], a: Address, store: &mut [u8], s: &[u8], k: KeyValue) -> usize
+    requires { ⌜ (4096 ≤ length (now out)) × (length (now by) ≤ 64) × Good (now store) × KeyValueLies (now s) k ⌝ }
+    ensures { λ r. ⌜ ((t : State) → t .store ≡ now (store .entry) → Sent (replied a (now (by .entry)) (deleteBy t (keyValueView (now (s .entry)) k) (entryOf t (keyValueView (now (s .entry)) k .key)))) r (now (out .entry)) (now (out .exit)) (withStore t (now (store .exit)))) ⌝ }
+{
+    let key = k.key.start;
+    let old = k.expected.start;
+    let force = flag_of(k.force);
+    let code = operations::delete(
+        store,
+        &s[key..key + k.key.len],
+        &s[old..old + k.expected.len],
+        force,
+    );
+    changed(out, by, a, code)
+}
+
+// ---- SETUP, SECURITY
+
+fn setup(out: &mut [u8], by: &[u8], a: Address, device: &mut Record, version: Num) -> usize
+    requires { ⌜ (4096 ≤ length (now out)) × (length (now by) ≤ 64) ⌝ }
+    ensures { λ r. ⌜ ((t : State) → t .device ≡ now (device .entry) → Sent (replied a (now (by .entry)) (setUp t (numView version))) r (now (out .entry)) (now (out .exit)) (withDevice t (now (device .exit)))) ⌝ }
+{
+    operations::setup(device, version.has, version.value);
+    status(out, by, a, 1)
+}
+
+// The table judged in step 8, written over the old one.
+fn secure(out: &mut [u8], by: &[u8], a: Address, device: &mut Record, s: &[u8], p: Part) -> usize
+    requires { ⌜ (4096 ≤ length (now out)) × (length (now by) ≤ 64) × StandsSecurity (now s) p × (securityGood (aclsIn (now s) p) ≡ true) ⌝ }
+    ensures { λ r. ⌜ ((t : State) → t .device ≡ now (device .entry) → Sent (replied a (now (by .entry)) (secure t (aclsIn (now (s .entry)) p))) r (now (out .entry)) (now (out .exit)) (withDevice t (now (device .exit)))) ⌝ }
+{
+    let version = access::cluster_version(device);
+    security::security_table(s, p, version, device);
+    status(out, by, a, 1)
+}
+
+// ---- step 10
+
+// The operation that was asked for, with a body that step 8 found right.
+pub fn perform(
+    o: Operation,
+    store: &mut [u8],
+    device: &mut Record,
+    s: &[u8],
+    b: Body,
+    value: &[u8],
+    out: &mut [u8],
+    by: &[u8],
+    a: Address,
+) -> usize
+    requires { ⌜ (4096 ≤ length (now out)) × (length (now by) ≤ 64) × Good (now store) × BodyLies (now s) b × (fault o (bodyView (now s) b) (now value) ≡ 0) ⌝ }
+    ensures { λ r. ⌜ ((c : Connection) → Sent (replied a (now (by .entry)) (step10 (lent (now (store .entry)) (now (device .entry)) c) o (bodyView (now (s .entry)) b) (now (value .entry)))) r (now (out .entry)) (now (out .exit)) (lent (now (store .exit)) (now (device .exit)) c)) ⌝ }
+{
+    match o {
+        Operation::Noop => status(out, by, a, 1),
+        Operation::FlushAllData => status(out, by, a, 1),
+        Operation::Get => get(out, by, a, Which::Own, store, s, b.entry),
+        Operation::GetVersion => get_version(out, by, a, store, s, b.entry),
+        Operation::GetNext => get(out, by, a, Which::Next, store, s, b.entry),
+        Operation::GetPrevious => get(out, by, a, Which::Previous, store, s, b.entry),
+        Operation::GetKeyRange => get_key_range(out, by, a, store, s, b.range),
+        Operation::Put => put(out, by, a, store, s, b.entry, value),
+        Operation::Delete => delete(out, by, a, store, s, b.entry),
+        Operation::Setup => setup(out, by, a, device, b.cluster),
+        Operation::Security => secure(out, by, a, device, s, b.security),
+    }
+}

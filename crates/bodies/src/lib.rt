@@ -1,0 +1,97 @@
+// Step 8: whether the body of a command is right for its operation.
+use judgement::broken;
+use judgement::fault;
+use judgement::key_value_good;
+use judgement::range_good;
+use lookups::parts::Part;
+use protocol::Operation;
+use requests::Body;
+use requests::KeyValue;
+use requests::Range;
+use requests::numbers::flag_of;
+use requests::numbers::number_or;
+use security::algorithms_good;
+use security::security_table;
+ghost use mathlib.Core.Path.{_≡_};
+ghost use mathlib.Core.List.{List};
+ghost use Prim.Native.Nat.{ℕ};
+ghost use lib.ListN.{length};
+ghost use Rattle.tree.specs.Tree.{guard};
+ghost use Rattle.protocol.specs.Judge.{fault, present, keyValueGood, changeGood, rangeGood};
+ghost use Rattle.judgement.specs.Given.{securityFault};
+ghost use Rattle.requests.specs.Views.{BodyLies, KeyValueLies, RangeLies, bodyView, keyValueView, rangeView};
+ghost use Rattle.security.specs.Security.{StandsSecurity, aclsIn};
+
+// Whether the keyValue is there and its lengths are right.
+fn key_value_right(keyed: bool, k: KeyValue) -> bool
+    ensures { λ r. ⌜ ((s : List ℕ) → KeyValueLies s k → r ≡ present keyValueGood (guard keyed (keyValueView s k))) ⌝ }
+{
+    if !keyed {
+        return false;
+    }
+    key_value_good(k.key.len, k.version.len, k.expected.len, k.tag.len)
+}
+
+// The same for a PUT or DELETE, where metadataOnly must not be true.
+fn change_right(keyed: bool, k: KeyValue) -> bool
+    ensures { λ r. ⌜ ((s : List ℕ) → KeyValueLies s k → r ≡ present changeGood (guard keyed (keyValueView s k))) ⌝ }
+{
+    if flag_of(k.metadata) {
+        return false;
+    }
+    key_value_right(keyed, k)
+}
+
+// Whether the range is there with both its keys, and their lengths and maxReturned are right.
+fn range_right(ranged: bool, g: Range) -> bool
+    ensures { λ r. ⌜ ((s : List ℕ) → RangeLies s g → r ≡ present rangeGood (guard ranged (rangeView s g))) ⌝ }
+{
+    if !ranged {
+        return false;
+    }
+    let most = number_or(g.limit, 32);
+    range_good(g.start.has, g.start.len, g.end.has, g.end.len, most)
+}
+
+// What is wrong with the security part, or 0: the ACL rules first, then the algorithms. The table that is made of it is thrown away.
+fn security_fault(s: &[u8], p: Part) -> u64
+    requires { ⌜ StandsSecurity (now s) p ⌝ }
+    ensures { λ r. ⌜ r ≡ securityFault (guard (p .has) (aclsIn (now (s .entry)) p)) ⌝ }
+{
+    let has = p.has;
+    if !has {
+        return 16;
+    }
+    let mut scratch = [0u8; 2960];
+    if !security_table(s, p, 0, &mut scratch) {
+        return 16;
+    }
+    if !algorithms_good(s, p) {
+        return 15;
+    }
+    0
+}
+
+// The same where the operation uses the part; else 0.
+fn security_code(o: Operation, s: &[u8], p: Part) -> u64
+    requires { ⌜ StandsSecurity (now s) p ⌝ }
+    ensures { λ r. ⌜ (o ≡ Operation.Security → r ≡ securityFault (guard (p .has) (aclsIn (now (s .entry)) p))) ⌝ }
+{
+    match o {
+        Operation::Security => security_fault(s, p),
+        _ => 0,
+    }
+}
+
+// What is wrong with a body, or 0: from the length of the value part.
+pub fn body_fault(o: Operation, s: &[u8], b: Body, value: usize) -> u64
+    requires { ⌜ BodyLies (now s) b ⌝ }
+    ensures { λ r. ⌜ ((v : List ℕ) → length v ≡ value → r ≡ fault o (bodyView (now (s .entry)) b) v) ⌝ }
+{
+    let pair = broken(key_value_right(b.keyed, b.entry));
+    let change = broken(change_right(b.keyed, b.entry));
+    let range = broken(range_right(b.ranged, b.range));
+    let setup = broken(b.changed);
+    let security = security_code(o, s, b.security);
+    fault(o, value, pair, change, range, setup, security)
+}

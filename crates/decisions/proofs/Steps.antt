@@ -1,0 +1,198 @@
+-- Steps 3 to 10, exit by exit: the result of each is what the definitions say, and what was sent is the reply with it.
+use mathlib.Core.Path.{_≡_, refl, sym, ap, subst, _∙_}
+use mathlib.Core.Bool.{Bool, true, false, not}
+use mathlib.Core.List.{List}
+use mathlib.Core.Option.{Option, none, some}
+use Prim.Native.Nat.{ℕ, _+_, _-_, _^_, _<_}
+use native.Mathlib.Omega.{arith}
+use lib.Dec.{eqb}
+use lib.ListN.{length, take, drop}
+use mir.Syntax.{w64}
+use mir.Val.{Fits}
+use borrow.Author.Tests.{eq-eqb, ne-eqb, not-false, not-true}
+use Rattle.wire.specs.Reader.{choose}
+use Rattle.tree.specs.Tree.{Tree, guard, mapO}
+use Rattle.access.specs.Table as access
+use Rattle.access.specs.Table.{placeOf}
+use Rattle.access.specs.declared.Found.the-variants.{At}
+use Rattle.lookups.specs.Views.{Inside, numView}
+use Rattle.lookups.specs.declared.parts.Num.{Num}
+use Rattle.lookups.specs.declared.parts.Part.{Part}
+use Rattle.protocol.specs.declared.Operation.{Operation}
+use Rattle.protocol.specs.declared.Asked.{Asked}
+use Rattle.protocol.specs.declared.Asked.the-variants.{Request, NotBuilt}
+use Rattle.protocol.specs.State.{State, Connection, accepted, heard, lent, table}
+use Rattle.protocol.specs.Command as c
+use Rattle.protocol.specs.Command.{orElse, commandOf}
+use Rattle.protocol.specs.Operation.{askedBy, replyType}
+use Rattle.protocol.specs.Judge.{Result, fails, fault, permitted, step7, step8, step9, step10, judge}
+use Rattle.protocol.specs.Reply.{commandTree, signedReply}
+use Rattle.protocol.specs.Reading.{decoded}
+use Rattle.protocol.specs.Answer.{Reply, reply, respond}
+use Rattle.protocol.specs.Box.{box, aclAt, decide, invalid, judged, sequenceOf, told, typeOf}
+use Rattle.requests.specs.declared.Body.{Body}
+use Rattle.requests.specs.declared.Header.{Header}
+use Rattle.requests.specs.Views.{BodyLies, bodyView, headerView}
+use Rattle.security.proofs.Scopes.{slice-at}
+use Rattle.judgement.specs.Given.{Heard, Keys, headerFault, headerThere, idIn, sequenceIn}
+use Rattle.judgement.specs.Steps.{judge-by, rest, sequenceHeard, typeIn}
+use Rattle.sending.specs.declared.Address.{Address}
+use Rattle.sending.specs.Sent.{Sent, replied}
+
+never : {A : Type 0} → _≡_ {A = ℕ} 0 1 → A
+never z = absurd (omega arith)
+
+-- an equal result is sent alike
+sent-as : (a : Address) (by : List ℕ) (x y : Result) {n : ℕ} {out out' : List ℕ} {t : State} → x ≡ y → Sent (replied a by x) n out out' t → Sent (replied a by y) n out out' t
+sent-as a by x y {n} {out} {out'} {t} e h = subst (λ (r : Result). Sent (replied a by r) n out out' t) e h
+
+-- a step that gives a code, 0 where it is passed
+failed : (s : State) (next : Result) (code : ℕ) {m : ℕ} → code ≡ m → (code ≡ 0 → ⊥) → fails s code ≡ choose (eqb m 0) next (fails s m)
+failed s next code {m} e h = rw (ne-eqb m 0 (λ z. h (e ∙ z))) (ap (λ (m : ℕ). fails s m) e)
+
+passed : (s : State) (next : Result) {m : ℕ} → m ≡ 0 → next ≡ choose (eqb m 0) next (fails s m)
+passed s next {m} e = rw (eq-eqb m 0 e)
+
+-- ---- steps 8 to 10
+
+-- the keys of a body, as the code cuts them out
+abbrev cut : List ℕ → Part → List ℕ
+cut s p = take (p .start + p .len - p .start) (drop (p .start) s)
+
+pub end-fits : (s : List ℕ) (p : Part) → length s < 2 ^ 64 → Inside s p → Fits w64 (p .start + p .len)
+end-fits s p h i = record { fits = omega arith }
+
+pub keys-cut : (s : List ℕ) (b : Body) → BodyLies s b → Keys (bodyView s b) (cut s (b .entry .key)) (cut s (b .range .start)) (cut s (b .range .end))
+keys-cut s b l =
+    record {
+      key = l .key ∙ sym (slice-at s (b .entry .key));
+      start = l .start ∙ sym (slice-at s (b .range .start));
+      end = l .end ∙ sym (slice-at s (b .range .end));
+    }
+
+abbrev served : State → access.Acl → Operation → c.Body → List ℕ → Result
+served s acl o b v = step8 s o b v (step9 s acl o b (step10 s o b v))
+
+module _ (s : State) (acl : access.Acl) (o : Operation) (b : c.Body) (v : List ℕ) (a : Address) (by : List ℕ) (n : ℕ) (out out' : List ℕ) (code : ℕ) (f : code ≡ fault o b v) where
+  pub faulty : (code ≡ 0 → ⊥) → Sent (replied a by (fails s code)) n out out' s → Sent (replied a by (served s acl o b v)) n out out' s
+  faulty h g = sent-as a by (fails s code) (served s acl o b v) (failed s (step9 s acl o b (step10 s o b v)) code f h) g
+
+  module _ (z : code ≡ 0) (p r : Bool) (w : s .connection .protected ≡ p) (e : r ≡ permitted acl p o b) where
+    chosen : (x : Bool) → r ≡ x → choose x (step10 s o b v) (fails s 3) ≡ served s acl o b v
+    chosen x q =
+        ap (λ (x : Bool). choose x (step10 s o b v) (fails s 3)) (sym q ∙ e ∙ ap (λ (p : Bool). permitted acl p o b) (sym w))
+        ∙ passed s (step9 s acl o b (step10 s o b v)) (sym f ∙ z)
+
+    pub forbidden : not r ≡ true → Sent (replied a by (fails s 3)) n out out' s → Sent (replied a by (served s acl o b v)) n out out' s
+    forbidden q g = sent-as a by (fails s 3) (served s acl o b v) (chosen false (not-true r q)) g
+
+    pub allowed : not r ≡ false → (after : State) → Sent (replied a by (step10 s o b v)) n out out' after → Sent (replied a by (served s acl o b v)) n out out' after
+    allowed q after g = sent-as a by (step10 s o b v) (served s acl o b v) (chosen true (not-false r q)) g
+
+-- ---- step 7
+
+module _ (s : State) (acl : access.Acl) (b : c.Body) (v : List ℕ) (a : Address) (by : List ℕ) (n : ℕ) (out out' : List ℕ) (x : Asked) (type : Option ℕ) (f : x ≡ askedBy type) where
+  pub built : (o : Operation) → x ≡ Request o → (after : State) → Sent (replied a by (served s acl o b v)) n out out' after → Sent (replied a by (rest s acl type b v)) n out out' after
+  built o e after g = sent-as a by (served s acl o b v) (rest s acl type b v) (ap (λ (x : Asked). step7 s x (λ o. served s acl o b v)) (sym e ∙ f)) g
+
+  pub not-built : x ≡ NotBuilt → Sent (replied a by (fails s 16)) n out out' s → Sent (replied a by (rest s acl type b v)) n out out' s
+  not-built e g = sent-as a by (fails s 16) (rest s acl type b v) (ap (λ (x : Asked). step7 s x (λ o. served s acl o b v)) (sym e ∙ f)) g
+
+-- ---- steps 4 to 6
+
+-- a field of a header that may not be there
+of-header : (f : Option c.Header → Option ℕ) (x : c.Header) → f none ≡ none → (headed : Bool) → choose headed (f (some x)) none ≡ f (guard headed x)
+of-header f x e true = refl
+of-header f x e false = sym e
+
+-- what the code has of a header: its clusterVersion, connectionID, sequence and messageType, what that asks for, and the reply's type
+pub record Had (headed : Bool) (h : Header) (v : ℕ) (i q t : Num) (a : Asked) (r : ℕ) : Type 0 where
+  pub version : v ≡ orElse 0 (numView (h .cluster))
+  pub id : numView i ≡ choose headed (numView (h .connection)) none
+  pub sequence : numView q ≡ choose headed (numView (h .sequence)) none
+  pub kind : numView t ≡ choose headed (numView (h .kind)) none
+  pub asked : a ≡ askedBy (numView t)
+  pub reply : r ≡ replyType a
+
+-- the sequence of a header that passes these steps
+accepted-one : (s : State) (h : Option c.Header) (b : Bool) (q : ℕ) → guard b q ≡ sequenceOf h → headerFault s h ≡ 0 → sequenceHeard h ≡ q
+accepted-one s none b q e f = never (cc)
+accepted-one s (some h) b q e f = go (h .connectionID) (h .sequence) b e f
+  where
+    go : (i p : Option ℕ) (b : Bool) → guard b q ≡ p → headerThere s h i p ≡ 0 → orElse 0 p ≡ q
+    go none p b e f = never (cc)
+    go (some i) none b e f = never (cc)
+    go (some i) (some p) true e f = cc
+    go (some i) (some p) false e f = never (cc)
+
+module _ {headed : Bool} {h : Header} {v : ℕ} {i q t : Num} {a : Asked} {r : ℕ} (k : Had headed h v i q t a r) (s : State) where
+  abbrev Head : Option c.Header
+  Head = guard headed (headerView h)
+
+  pub heard-by : Heard s Head (s .device) v (numView i) (numView q) (s .connection .number) (s .connection .last)
+  heard-by =
+      record {
+        device = refl;
+        version = λ x e. clustered headed x e;
+        id = sym (k .id ∙ of-header idIn (headerView h) refl headed);
+        sequence = sym (k .sequence ∙ of-header sequenceIn (headerView h) refl headed);
+        number = refl;
+        last = refl;
+      }
+    where
+      clustered : (b : Bool) (x : c.Header) → guard b (headerView h) ≡ some x → x .clusterVersion ≡ v
+      clustered true x e = let f : headerView h ≡ x = cc in ap (λ (x : c.Header). x .clusterVersion) (sym f) ∙ sym (k .version)
+      clustered false x e = never (cc)
+
+  pub asked-as : a ≡ askedBy (typeIn Head)
+  asked-as = k .asked ∙ ap askedBy (k .kind ∙ of-header typeIn (headerView h) refl headed)
+
+  module _ (identity : ℕ) (by : List ℕ) (b : c.Body) (acl : access.Acl) (w : List ℕ) (code n : ℕ) (out out' : List ℕ) (f : code ≡ headerFault s Head) where
+    abbrev To : Address
+    To = record { identity = identity; connection = s .connection .number; sequenced = q .has; sequence = q .value; kind = r }
+
+    abbrev Said : c.Command
+    Said = record { header = Head; body = b }
+
+    abbrev Rest : ℕ → Result
+    Rest p = rest (accepted s p) acl (typeIn Head) b w
+
+    -- what is sent to the address that the code makes is what is told
+    sent-told : (x : Result) (after : State) → x ≡ judge s acl Said w → Sent (replied To by x) n out out' after → Sent (told s identity by Said (judge s acl Said w)) n out out' after
+    sent-told x after e g =
+        let p = k .sequence ∙ of-header sequenceOf (headerView h) refl headed in
+        let u = k .reply ∙ ap replyType (k .asked ∙ ap askedBy (k .kind ∙ of-header typeOf (headerView h) refl headed)) in
+        subst (λ (y : Reply State). Sent y n out out' after)
+        (λ j. reply (signedReply identity by (commandTree (s .connection .number) (p j) (u j) (e j .body) (e j .code)) (e j .value)) (e j .state)) g
+
+    pub refused : (code ≡ 0 → ⊥) → Sent (replied To by (fails s code)) n out out' s → Sent (told s identity by Said (judge s acl Said w)) n out out' s
+    refused z g = sent-told (fails s code) s (failed s (Rest (sequenceHeard Head)) code f z ∙ sym (judge-by s acl Said w)) g
+
+    pub accepts : (store device : List ℕ) (after : Connection) → code ≡ 0 → after ≡ heard (s .connection) (q .value)
+        → Sent (replied To by (Rest (q .value))) n out out' (lent store device (heard (s .connection) (q .value))) → Sent (told s identity by Said (judge s acl Said w)) n out out' (lent store device after)
+    accepts store device after z e g =
+        let y = sym f ∙ z in
+        let l = accepted-one s Head (q .has) (q .value) (k .sequence ∙ of-header sequenceOf (headerView h) refl headed) y in
+        sent-told (Rest (q .value)) (lent store device after) (ap Rest (sym l) ∙ passed s (Rest (sequenceHeard Head)) y ∙ sym (judge-by s acl Said w))
+        (subst (λ (x : Connection). Sent (replied To by (Rest (q .value))) n out out' (lent store device x)) (sym e) g)
+
+-- ---- step 3
+
+module _ (s : State) (i : ℕ) (by : List ℕ) (v : List ℕ) (o : Option Tree) (x : c.Command) (ok : Bool) (e : guard ok x ≡ mapO commandOf o) (n : ℕ) (out out' : List ℕ) where
+  pub undecoded : ok ≡ false → Sent (reply (invalid s i by) s) n out out' s → Sent (respond box s v (decoded i by o)) n out out' s
+  undecoded f g = go o (ap (λ (b : Bool). guard b x) (sym f) ∙ e)
+    where
+      go : (o : Option Tree) → none ≡ mapO commandOf o → Sent (respond box s v (decoded i by o)) n out out' s
+      go none e = g
+      go (some t) e = never (cc)
+
+  pub decodes : ok ≡ true → (place : ℕ) → placeOf (table s) i ≡ At place → (after : State)
+      → Sent (told s i by x (judge s (access.aclOf (table s) place) x v)) n out out' after → Sent (respond box s v (decoded i by o)) n out out' after
+  unfolding decide
+  decodes f place p after g = go o (ap (λ (b : Bool). guard b x) (sym f) ∙ e)
+    where
+      go : (o : Option Tree) → some x ≡ mapO commandOf o → Sent (respond box s v (decoded i by o)) n out out' after
+      go none e = never (cc)
+      go (some t) e =
+          let f : x ≡ commandOf t = cc in
+          subst (λ (y : Reply State). Sent y n out out' after) (λ j. judged s i by (f j) v (aclAt s (sym p j))) g

@@ -1,0 +1,10 @@
+-- What the struct of a request that decodes means.
+use mathlib.Core.List.{List}
+use Prim.Native.Nat.{ℕ}
+use Rattle.tree.specs.Tree.{guard}
+use Rattle.protocol.specs.Command as c
+use Rattle.requests.specs.declared.Request.{Request}
+use Rattle.requests.specs.Views.{headerView, bodyView}
+
+abbrev pub commandIn : List ℕ → Request → c.Command
+commandIn s q = record { header = guard (q .headed) (headerView (q .header)); body = bodyView s (q .body) }

@@ -1,0 +1,222 @@
+// Steps 3 to 10: what comes of a command that was signed right.
+use access::Record;
+use connections::Connection;
+use lookups::parts::Num;
+use protocol::Asked;
+use protocol::Operation;
+use requests::Body;
+use requests::Request;
+use requests::numbers::number_or;
+use sending::Address;
+ghost use mathlib.Core.Path.{_≡_};
+ghost use mathlib.Core.Bool.{true};
+ghost use mathlib.Core.Option.{Option, none};
+ghost use Prim.Native.Nat.{ℕ, _≤_};
+ghost use lib.ListN.{length};
+ghost use Rattle.tree.specs.Tree.{listed};
+ghost use Rattle.tree.specs.declared.Kind.the-variants.{Command};
+ghost use Rattle.wire.specs.Reader.{choose};
+ghost use Rattle.store.specs.Store.{Good};
+ghost use Rattle.access.specs.Table.{aclOf, placeOf, tableGood};
+ghost use Rattle.access.specs.declared.Found.the-variants.{At};
+ghost use Rattle.access.specs.Record.{tableOf, Placed};
+ghost use Rattle.lookups.specs.Views.{numView};
+ghost use Rattle.protocol.specs.State as state;
+ghost use Rattle.protocol.specs.State.{lent};
+ghost use Rattle.protocol.specs.Reading.{decoded};
+ghost use Rattle.protocol.specs.Judge.{step8, step9, step10, judge};
+ghost use Rattle.protocol.specs.Operation.{askedBy};
+ghost use Rattle.protocol.specs.Answer.{respond};
+ghost use Rattle.protocol.specs.Box.{box, told};
+ghost use Rattle.judgement.specs.Steps.{rest};
+ghost use Rattle.requests.specs.Views.{BodyLies, bodyView};
+ghost use Rattle.connections.specs.Means.{connectionOf};
+ghost use Rattle.decisions.specs.Commands.{commandIn};
+ghost use Rattle.sending.specs.Sent.{Sent, replied};
+
+// A reply of so many bytes, and the connection after it.
+pub struct Replied {
+    pub written: usize,
+    pub connection: Connection,
+}
+
+// Steps 8 to 10.
+fn serve(
+    o: Operation,
+    store: &mut [u8],
+    device: &mut Record,
+    place: usize,
+    protected: bool,
+    s: &[u8],
+    b: Body,
+    value: &[u8],
+    out: &mut [u8],
+    by: &[u8],
+    a: Address,
+) -> usize
+    requires { ⌜ (4096 ≤ length (now out)) × (length (now by) ≤ 64) × Good (now store) × Placed (now device) place × BodyLies (now s) b ⌝ }
+    ensures { λ r. ⌜ ((c : state.Connection) → c .protected ≡ protected → Sent (replied a (now (by .entry)) (step8 (lent (now (store .entry)) (now (device .entry)) c) o (bodyView (now (s .entry)) b) (now (value .entry)) (step9 (lent (now (store .entry)) (now (device .entry)) c) (aclOf (tableOf (now (device .entry))) place) o (bodyView (now (s .entry)) b) (step10 (lent (now (store .entry)) (now (device .entry)) c) o (bodyView (now (s .entry)) b) (now (value .entry)))))) r (now (out .entry)) (now (out .exit)) (lent (now (store .exit)) (now (device .exit)) c)) ⌝ }
+{
+    let fault = bodies::body_fault(o, s, b, value.len());
+    if fault != 0 {
+        return sending::status(out, by, a, fault);
+    }
+    let key = b.entry.key.start;
+    let start = b.range.start.start;
+    let end = b.range.end.start;
+    if !judgement::permitted(
+        device,
+        place,
+        protected,
+        o,
+        &s[key..key + b.entry.key.len],
+        &s[start..start + b.range.start.len],
+        &s[end..end + b.range.end.len],
+    ) {
+        return sending::status(out, by, a, 3);
+    }
+    actions::perform(o, store, device, s, b, value, out, by, a)
+}
+
+// Steps 7 to 10.
+fn obey(
+    asked: Asked,
+    store: &mut [u8],
+    device: &mut Record,
+    place: usize,
+    protected: bool,
+    s: &[u8],
+    b: Body,
+    value: &[u8],
+    out: &mut [u8],
+    by: &[u8],
+    a: Address,
+) -> usize
+    requires { ⌜ (4096 ≤ length (now out)) × (length (now by) ≤ 64) × Good (now store) × Placed (now device) place × BodyLies (now s) b ⌝ }
+    ensures { λ r. ⌜ ((c : state.Connection) (type : Option ℕ) → c .protected ≡ protected → asked ≡ askedBy type → Sent (replied a (now (by .entry)) (rest (lent (now (store .entry)) (now (device .entry)) c) (aclOf (tableOf (now (device .entry))) place) type (bodyView (now (s .entry)) b) (now (value .entry)))) r (now (out .entry)) (now (out .exit)) (lent (now (store .exit)) (now (device .exit)) c)) ⌝ }
+{
+    match asked {
+        Asked::Request(o) => serve(o, store, device, place, protected, s, b, value, out, by, a),
+        Asked::NotBuilt => sending::status(out, by, a, 16),
+    }
+}
+
+// A number of a header, if there is a header.
+fn in_header(headed: bool, n: Num) -> Num
+    ensures { λ r. ⌜ numView r ≡ choose headed (numView n) none ⌝ }
+{
+    if headed {
+        return n;
+    }
+    Num {
+        has: false,
+        value: 0,
+    }
+}
+
+// Steps 4 to 10.
+fn judge(
+    store: &mut [u8],
+    device: &mut Record,
+    place: usize,
+    connection: Connection,
+    identity: u64,
+    s: &[u8],
+    q: Request,
+    value: &[u8],
+    out: &mut [u8],
+    by: &[u8],
+) -> Replied
+    requires { ⌜ (4096 ≤ length (now out)) × (length (now by) ≤ 64) × Good (now store) × Placed (now device) place × BodyLies (now s) (q .body) ⌝ }
+    ensures { λ r. ⌜ Sent (told (lent (now (store .entry)) (now (device .entry)) (connectionOf connection)) identity (now (by .entry)) (commandIn (now (s .entry)) q) (judge (lent (now (store .entry)) (now (device .entry)) (connectionOf connection)) (aclOf (tableOf (now (device .entry))) place) (commandIn (now (s .entry)) q) (now (value .entry)))) (r .written) (now (out .entry)) (now (out .exit)) (lent (now (store .exit)) (now (device .exit)) (connectionOf (r .connection))) ⌝ }
+{
+    let version = number_or(q.header.cluster, 0);
+    let id = in_header(q.headed, q.header.connection);
+    let sequence = in_header(q.headed, q.header.sequence);
+    let kind = in_header(q.headed, q.header.kind);
+    let asked = judgement::asked_by(kind.has, kind.value);
+    let a = Address {
+        identity,
+        connection: connection.number,
+        sequenced: sequence.has,
+        sequence: sequence.value,
+        kind: judgement::reply_type(asked),
+    };
+    let code = judgement::header_fault(
+        device,
+        version,
+        id.has,
+        id.value,
+        sequence.has,
+        sequence.value,
+        connection.number,
+        connection.seen,
+        connection.last,
+    );
+    if code != 0 {
+        return Replied {
+            written: sending::status(out, by, a, code),
+            connection,
+        };
+    }
+    Replied {
+        written: obey(
+            asked,
+            store,
+            device,
+            place,
+            connection.protected,
+            s,
+            q.body,
+            value,
+            out,
+            by,
+            a,
+        ),
+        connection: connections::accept(connection, sequence.value),
+    }
+}
+
+// Steps 3 to 10: the command in the commandBytes s, of the identity at a place of the table.
+pub fn decide(
+    store: &mut [u8],
+    device: &mut Record,
+    place: usize,
+    connection: Connection,
+    identity: u64,
+    s: &[u8],
+    value: &[u8],
+    out: &mut [u8],
+    by: &[u8],
+) -> Replied
+    requires { ⌜ (4096 ≤ length (now out)) × (length (now by) ≤ 64) × Good (now store) × (tableGood (tableOf (now device)) ≡ true) × (placeOf (tableOf (now device)) identity ≡ At place) ⌝ }
+    ensures { λ r. ⌜ Sent (respond box (lent (now (store .entry)) (now (device .entry)) (connectionOf connection)) (now (value .entry)) (decoded identity (now (by .entry)) (listed Command (now (s .entry))))) (r .written) (now (out .entry)) (now (out .exit)) (lent (now (store .exit)) (now (device .exit)) (connectionOf (r .connection))) ⌝ }
+{
+    let r = requests::read_request(s);
+    let ok = r.ok;
+    if ok {
+        return judge(
+            store,
+            device,
+            place,
+            connection,
+            identity,
+            s,
+            r,
+            value,
+            out,
+            by,
+        );
+    }
+    let a = Address {
+        identity,
+        connection: connection.number,
+        sequenced: false,
+        sequence: 0,
+        kind: 18446744073709551615,
+    };
+    Replied {
+        written: sending::status(out, by, a, 16),
+        connection,
+    }
+}

@@ -1,0 +1,162 @@
+-- The steps of a call, one law for each way that it goes.
+use mathlib.Core.Path.{_≡_, refl, sym, ap, ap₂, subst, _∙_}
+use mathlib.Core.Bool.{Bool, true, false}
+use mathlib.Core.List.{List, _++_}
+use mathlib.Core.Option.{Option, none, some}
+use Prim.Native.Nat.{ℕ, _+_, _-_, _*_, _≤_}
+use native.Mathlib.Omega.{arith}
+use lib.ListN.{length, take, drop, getD, length-take, length-drop}
+use lib.Seq.{take-at}
+use Rattle.wire.specs.Reader.{choose}
+use Rattle.tree.specs.Tree.{listed, guard, mapO}
+use Rattle.tree.specs.declared.Kind.the-variants.{Command}
+use Rattle.signature.specs.Hmac as signature
+use Rattle.signature.specs.Hmac.{hmac}
+use Rattle.signature.specs.HmacLaws.{verified-exactly}
+use Rattle.access.specs.Table.{aclOf, placeOf}
+use Rattle.access.specs.Record as access
+use Rattle.access.specs.Record.{tableOf, bytesAt, Placed}
+use Rattle.access.specs.Laws.{aclOf-at, place-of, length-bytesAt}
+use Rattle.access.specs.declared.Found.{Found}
+use Rattle.access.specs.declared.Found.the-variants.{At, Nobody}
+use Rattle.writers.specs.Pushed.{Starts}
+use Rattle.lookups.specs.declared.parts.Part.{Part}
+use Rattle.lookups.specs.Views.{bytesAt as bytesIn}
+use Rattle.requests.specs.declared.message.Sealed.{Sealed}
+use Rattle.requests.specs.Messages.{sealedView}
+use Rattle.protocol.specs.State.{State, table, closing}
+use Rattle.protocol.specs.Frame.{Framing, more, closes, whole, frameOf}
+use Rattle.protocol.specs.Reading as reading
+use Rattle.protocol.specs.Reading.{Envelope, envelope, readMessage, readingBy, sameBytes, decoded, verified, opened}
+use Rattle.protocol.specs.Proved.{same-bytes, bytes-same}
+use Rattle.protocol.specs.Answer.{Reply, reply, taking, respond, serve}
+use Rattle.protocol.specs.Box.{box, close, aclAt}
+use Rattle.sending.specs.Sent.{Sent}
+use Rattle.device.specs.Means.{Called, refusing, answering, afterwards}
+
+-- the same reply by another name
+pub sent-as : {x y : Reply State} {n : ℕ} {out out' : List ℕ} {after : State} → x ≡ y → Sent y n out out' after → Sent x n out out' after
+sent-as {n = n} {out} {out'} {after} e h = subst (λ (x : Reply State). Sent x n out out' after) (sym e) h
+
+-- a part of a message as the code cuts it
+pub part-is : (m : List ℕ) (p : Part) → bytesIn m p ≡ take (p .start + p .len - p .start) (drop (p .start) m)
+unfolding bytesIn
+part-is m p = let e : p .len ≡ p .start + p .len - p .start = omega arith in ap (λ (n : ℕ). take n (drop (p .start) m)) e
+
+-- what step 1 reads
+pub sealed : (m : List ℕ) (r : Sealed) → sealedView m r ≡ readMessage m → r .ok ≡ true
+    → readMessage m ≡ some (envelope (r .identity) (take (r .hmac .start + r .hmac .len - r .hmac .start) (drop (r .hmac .start) m)) (take (r .command .start + r .command .len - r .command .start) (drop (r .command .start) m)))
+sealed m r e ok =
+    sym e ∙ ap (λ (b : Bool). guard b (envelope (r .identity) (bytesIn m (r .hmac)) (bytesIn m (r .command)))) ok
+    ∙ ap₂ (λ (x y : List ℕ). some (envelope (r .identity) x y)) (part-is m (r .hmac)) (part-is m (r .command))
+
+pub unsealed : (m : List ℕ) (r : Sealed) → sealedView m r ≡ readMessage m → r .ok ≡ false → readMessage m ≡ none
+unsealed m r e ok = sym e ∙ ap (λ (b : Bool). guard b (envelope (r .identity) (bytesIn m (r .hmac)) (bytesIn m (r .command)))) ok
+
+-- ---- steps 1 and 2
+
+module _ (s : State) (v : List ℕ) where
+  abbrev keyOf : ℕ → Option (List ℕ)
+  keyOf i = box .keyOf s i
+
+  abbrev pub replyTo : List ℕ → Reply State
+  replyTo m = respond box s v (readingBy hmac keyOf m)
+
+  pub unread : (m : List ℕ) → readMessage m ≡ none → replyTo m ≡ close s 20
+  unfolding readingBy
+  unread m e = ap (λ (o : Option Envelope). respond box s v (opened hmac keyOf o)) e
+
+  module _ (m : List ℕ) {i : ℕ} {sig c : List ℕ} (e : readMessage m ≡ some (envelope i sig c)) where
+    looked-up : replyTo m ≡ respond box s v (verified hmac keyOf i sig c (keyOf i))
+    unfolding readingBy
+    looked-up = ap (λ (o : Option Envelope). respond box s v (opened hmac keyOf o)) e
+
+    pub unknown : placeOf (table s) i ≡ Nobody → replyTo m ≡ close s 2
+    unknown f = looked-up ∙ ap (λ (p : Found). respond box s v (verified hmac keyOf i sig c (mapO (λ a. a .key) (aclAt s p)))) f
+
+    pub known : {p : ℕ} → placeOf (table s) i ≡ At p → replyTo m ≡ respond box s v (verified hmac keyOf i sig c (some (aclOf (table s) p .key)))
+    known f = looked-up ∙ ap (λ (p : Found). respond box s v (verified hmac keyOf i sig c (mapO (λ a. a .key) (aclAt s p)))) f
+
+  module _ (i : ℕ) (sig c key : List ℕ) where
+    pub wrong-hmac : sameBytes sig (hmac key c) ≡ false → respond box s v (verified hmac keyOf i sig c (some key)) ≡ close s 2
+    wrong-hmac e = ap (λ (t : Bool). respond box s v (choose t (decoded i key (listed Command c)) (reading.closing 2))) e
+
+    pub right-hmac : sameBytes sig (hmac key c) ≡ true
+        → respond box s v (verified hmac keyOf i sig c (some key)) ≡ respond box s v (decoded i key (listed Command c))
+    right-hmac e = ap (λ (t : Bool). respond box s v (choose t (decoded i key (listed Command c)) (reading.closing 2))) e
+
+  -- the command under the key, by its copy
+  pub sent-by : (i : ℕ) (c : List ℕ) {by key : List ℕ} {n : ℕ} {out out' : List ℕ} {after : State} → by ≡ key
+      → Sent (respond box s v (decoded i by (listed Command c))) n out out' after → Sent (respond box s v (decoded i key (listed Command c))) n out out' after
+  sent-by i c {n = n} {out} {out'} {after} e h = subst (λ (k : List ℕ). Sent (respond box s v (decoded i k (listed Command c))) n out out' after) e h
+
+never : {A : Type 0} → _≡_ {A = ℕ} 0 1 → A
+never z = absurd (omega arith)
+
+-- the comparison of step 2 is that of the signature part
+pub hmac-right : (key c sig : List ℕ) → length key ≤ 64 → length c ≤ 8192 → sameBytes sig (hmac key c) ≡ signature.verified key c sig
+hmac-right key c sig k l =
+    go (signature.verified key c sig) refl (sameBytes sig (hmac key c)) refl
+  where
+    exactly : (signature.verified key c sig ≡ true → sig ≡ hmac key c) × (signature.verified key c (hmac key c) ≡ true)
+    exactly = verified-exactly key c sig (omega arith) (omega arith)
+
+    go : (a : Bool) → signature.verified key c sig ≡ a → (b : Bool) → sameBytes sig (hmac key c) ≡ b → sameBytes sig (hmac key c) ≡ signature.verified key c sig
+    go true e true f = f ∙ sym e
+    go false e false f = f ∙ sym e
+    go true e false f = never (let z = sym f ∙ ap (λ (x : List ℕ). sameBytes x (hmac key c)) (exactly .0 e) ∙ bytes-same (hmac key c) in cc)
+    go false e true f = never (let z = sym e ∙ ap (signature.verified key c) (same-bytes sig (hmac key c) f) ∙ exactly .1 in cc)
+
+-- ---- the key
+
+pub key-short : (l : List ℕ) (i : ℕ) → Placed l i → length (aclOf (tableOf l) i .key) ≤ 64
+unfolding access.aclAt
+key-short l i p =
+    let e : length (aclOf (tableOf l) i .key) ≡ length (bytesAt l (16 + i * 368 + 16) (getD l (16 + i * 368 + 8) 0)) = ap (λ a. length (a .key)) (aclOf-at l i (p .below)) in
+    let f = length-bytesAt l (16 + i * 368 + 16) (getD l (16 + i * 368 + 8) 0) in
+    let g = place-of l i (p .below) (p .good) .key-fits in
+    omega arith
+
+pub copied : {n : ℕ} {bs before after : List ℕ} → Starts n bs before after → take n after ≡ bs
+copied {n} {bs} {before} {after} h = ap (take n) (h .same) ∙ take-at bs (drop n before) n (sym (h .next))
+
+-- ---- the call
+
+pub answered-by : (s : State) (t : ℕ) {x : Reply State} {n : ℕ} {out out' : List ℕ} {after : State} → Sent x n out out' after
+    → answering n t after out' ≡ afterwards s out (taking t x)
+answered-by s t {x = reply b a} {n = n} {out} {out'} {after} h = go (h .told .next) (sym (h .left)) (h .told .same)
+  where
+    go : n ≡ length b → after ≡ a → out' ≡ b ++ drop n out
+        → answering n t after out' ≡ answering (length b) t a (b ++ drop (length b) out)
+    go e f g =
+        let k : out' ≡ b ++ drop (length b) out = g ∙ ap (λ (n : ℕ). b ++ drop n out) e in
+        λ i. answering (e i) t (f i) (k i)
+
+-- by the frame
+module _ (s : State) (out xs : List ℕ) where
+  abbrev served : Framing → Called
+  served f = afterwards s out (serve box s (length xs) f)
+
+  pub more-due : more ≡ frameOf xs → refusing 5 s out ≡ served (frameOf xs)
+  more-due e = ap served e
+
+  module _ {n : ℕ} {out' : List ℕ} {after : State} where
+    pub closing-frame : closes ≡ frameOf xs → Sent (close s 20) n out out' after
+        → answering n (length xs) after out' ≡ served (frameOf xs)
+    closing-frame e h = answered-by s (length xs) h ∙ ap served e
+
+    pub whole-frame : {m v r : List ℕ} {t : ℕ} → whole m v r ≡ frameOf xs → t ≡ 9 + length m + length v → Sent (replyTo s v m) n out out' after
+        → answering n t after out' ≡ served (frameOf xs)
+    whole-frame {m} {v} {t = t} e g h =
+        answered-by s t h ∙ ap (λ (t : ℕ). afterwards s out (taking t (replyTo s v m))) g ∙ ap served e
+
+    -- a frame as the code cuts it
+    pub whole-cut : (m v : ℕ) → whole (take m (drop 9 xs)) (take v (drop (9 + m) xs)) (drop (9 + m + v) xs) ≡ frameOf xs → 9 + m + v ≤ length xs
+        → Sent (replyTo s (take (9 + m + v - (9 + m)) (drop (9 + m) xs)) (take (9 + m - 9) (drop 9 xs))) n out out' after
+        → answering n (9 + m + v) after out' ≡ served (frameOf xs)
+    whole-cut m v e l h =
+        let f : 9 + m + v - (9 + m) ≡ v = omega arith in
+        let g : 9 + m - 9 ≡ m = omega arith in
+        let k : 9 + m + v ≡ 9 + length (take m (drop 9 xs)) + length (take v (drop (9 + m) xs)) = simp (length-take, length-drop) (omega arith) in
+        whole-frame e k (subst (λ (b : ℕ). Sent (replyTo s (take v (drop (9 + m) xs)) (take b (drop 9 xs))) n out out' after) g
+        (subst (λ (b : ℕ). Sent (replyTo s (take b (drop (9 + m) xs)) (take (9 + m - 9) (drop 9 xs))) n out out' after) f h))
