@@ -6,9 +6,10 @@ test:
 	rt fmt --check
 	rt ci
 
-# What there is to run: the outside vectors, with a line for each saying what was compared.
+# What there is to run: a day at a site, and the outside vectors, with a line for each saying what was compared.
 run:
-	rt check signature_main fields_main writers_main store_main verdicts
+	rt check site_main signature_main fields_main writers_main store_main verdicts
+	tests/compare.py site_main "conformance/model.py, from document 01"
 	tests/compare.py fields_main "protoc's bytes and lines worked out by tests/fields.py"
 	tests/compare.py writers_main "protoc's bytes"
 	tests/compare.py store_main "tests/store_expected.py, from the table of blocks"
