@@ -1,19 +1,18 @@
 -- What the proofs of the code go by: each test over the record's bytes, and one turn of each walk.
 use mathlib.Core.Path.{_≡_, refl, sym, ap, ap₂, _∙_}
-use mathlib.Core.Bool.{Bool, true, false, not}
+use mathlib.Core.Bool.{Bool, true, false}
 use mathlib.Core.List.{List, [], _∷_}
 use Prim.Native.Nat.{ℕ, zero, suc, _+_, _-_, _*_, _≤_, _<_}
 use native.Mathlib.Nat.{not-suc-le-zero}
 use native.Mathlib.Numerals.{add-one}
 use native.Mathlib.Omega.{arith}
-use lib.Dec.{eqb, leb}
+use lib.Dec.{leb}
 use borrow.Author.Tests.{eq-eqb, ne-eqb, leb-true}
-use lib.ListN.{length, take, drop, getD, drop-of-length-le}
+use lib.ListN.{length, take, drop, getD}
 use lib.Seq.{drop-cons}
 use Rattle.access.specs.declared.Found.the-variants.{At, Nobody}
-use Rattle.access.specs.Table.{Scope, Acl, aclOf, both, either, maskGood, scopeGood, all, within, aclGood, findFrom, pickFound, isNobody, aclsGood, tableGood, any, bit, noAcl}
+use Rattle.access.specs.Table.{Scope, Acl, aclOf, both, either, maskGood, scopeGood, all, within, aclGood, findFrom, pickFound, isNobody, aclsGood, tableGood, any, noAcl}
 use Rattle.access.specs.Record.{bytesAt, wordAt, scopeAt, scopesAt, aclAt, aclsAt, tableOf}
-use Rattle.access.specs.Permission.{sameBytes, fitsAt, fits, holds, grants}
 
 -- ---- a walk that answers no at the first no
 pub stops : {x : Bool} (y : Bool) {g h : Bool} → g ≡ both x y → g ≡ h → x ≡ false → false ≡ h
@@ -144,35 +143,6 @@ pub find-end : (i : ℕ) (z : ℕ) (l : List ℕ) (a n : ℕ) → n ≤ 0 → fi
 unfolding findFrom
 find-end i z l a n h = ap (findFrom i z) (no-acls l a n h)
 
--- ---- the value in the key
-abbrev pub runs : List ℕ → ℕ → ℕ → List ℕ → ℕ → Bool
-runs l a n k p = sameBytes (bytesAt l a n) (take n (drop p k))
-
-pub fits-runs : (l : List ℕ) (a n o : ℕ) (k : List ℕ) → runs l a n k o ≡ fitsAt (bytesAt l a n) o k
-unfolding fitsAt sameBytes bytesAt
-fits-runs l a zero o k = refl
-fits-runs l a (suc n) o k =
-    ap (λ (m : ℕ). sameBytes (bytesAt l a (suc n)) (take m (drop o k))) (sym (length-bytesAt l a (suc n)))
-
-pub runs-turn : (l : List ℕ) (a n : ℕ) (k : List ℕ) (p : ℕ) → 0 < n → p < length k
-    → runs l a n k p ≡ both (eqb (getD l a 0) (getD k p 0)) (runs l (a + 1) (n - 1) k (p + 1))
-unfolding sameBytes bytesAt
-runs-turn l a zero k p h g = absurd (not-suc-le-zero h)
-runs-turn l a (suc n) k p h g =
-    let e : n ≡ suc n - 1 = omega arith in
-    ap (λ (x : List ℕ). sameBytes (bytesAt l a (suc n)) (take (suc n) x)) (drop-cons k p 0 g)
-    ∙ ap₂ (λ (m q : ℕ). both (eqb (getD l a 0) (getD k p 0)) (sameBytes (bytesAt l (a + 1) m) (take m (drop q k)))) e (sym (add-one p))
-
-pub runs-short : (l : List ℕ) (a n : ℕ) (k : List ℕ) (p : ℕ) → 0 < n → length k ≤ p → runs l a n k p ≡ false
-unfolding sameBytes bytesAt
-runs-short l a zero k p h g = absurd (not-suc-le-zero h)
-runs-short l a (suc n) k p h g = ap (λ (x : List ℕ). sameBytes (bytesAt l a (suc n)) (take (suc n) x)) (drop-of-length-le k g)
-
-pub runs-end : (l : List ℕ) (a n : ℕ) (k : List ℕ) (p : ℕ) → n ≤ 0 → runs l a n k p ≡ true
-unfolding sameBytes bytesAt
-runs-end l a zero k p h = refl
-runs-end l a (suc n) k p h = absurd (omega arith)
-
 -- ---- what a good record gives
 pub table-count : (l : List ℕ) → tableGood (tableOf l) ≡ true → getD l 8 0 ≤ 8
 table-count l g = within-high 1 8 (getD l 8 0) (both-fst _ (aclsGood (aclsAt l 16 (getD l 8 0))) (sym (table-test l refl) ∙ g))
@@ -240,15 +210,7 @@ module _ (l : List ℕ) (i : ℕ) (h : i < length (tableOf l .acls)) where
       place-good l (16 + i * 368)
       (acls-nth l 16 (getD l 8 0) i (both-snd (within 1 8 (getD l 8 0)) _ (sym (table-test l refl) ∙ g)) below-count)
 
--- ---- the verdict
-pub grant-test : (counts : Bool) (k : List ℕ) (protected : Bool) (p : ℕ) (l : List ℕ) (a : ℕ)
-    → grants counts k protected p (scopeAt l a)
-    ≡ both (bit (getD l (a + 2) 0 * 256 + getD l (a + 3) 0) p)
-    (both (either (not (not (eqb (getD l (a + 4) 0) 0))) protected)
-    (either (not counts) (fitsAt (bytesAt l (a + 8) (getD l (a + 1) 0)) (getD l a 0) k)))
-unfolding grants holds scopeAt fits
-grant-test counts k protected p l a = refl
-
+-- ---- one scope after the other
 pub any-turn : (f : Scope → Bool) (l : List ℕ) (a n : ℕ) → 0 < n
     → any f (scopesAt l a n) ≡ either (f (scopeAt l a)) (any f (scopesAt l (a + 72) (n - 1)))
 unfolding any

@@ -1,9 +1,7 @@
 pub mod Table
 pub mod Record
-pub mod Permission
 pub mod Laws
 pub mod Lookup
 pub mod Bits
 pub mod Mask
-pub mod Verdict
 pub mod Readback

@@ -8,8 +8,7 @@ use native.Mathlib.Nat.{not-suc-le-zero}
 use native.Mathlib.Omega.{arith}
 use lib.Dec.{eqb, leb}
 use borrow.Author.Tests.{eq-eqb, ne-eqb, eqb-true, eqb-false, leb-true, leb-false, le-leb}
-use Rattle.access.specs.Table.{both, either, all, any, within, named, bit, withBit, maskOf, maskGood, everyScope}
-use Rattle.access.specs.Permission.{isEmpty}
+use Rattle.access.specs.Table.{both, either, all, any, within, named, bit, withBit, maskOf, maskGood, isEmpty, everyScope}
 use Rattle.access.specs.Laws.{both-fst, both-snd, within-high}
 use Rattle.access.specs.Bits.{with-bit, no-bit, with-below, bit-below, same-bits}
 

@@ -48,6 +48,16 @@ any f (x ∷ xs) = either (f x) (any f xs)
 abbrev pub within : ℕ → ℕ → ℕ → Bool
 within a b n = both (leb a n) (leb n b)
 
+abbrev pub isEmpty : List ℕ → Bool
+isEmpty [] = true
+isEmpty (x ∷ xs) = false
+
+unfoldable pub sameBytes : List ℕ → List ℕ → Bool
+sameBytes [] [] = true
+sameBytes [] (y ∷ ys) = false
+sameBytes (x ∷ xs) [] = false
+sameBytes (x ∷ xs) (y ∷ ys) = both (eqb x y) (sameBytes xs ys)
+
 -- ---- sets of permissions
 
 -- "permissions among 0-5, 7, 8, 9"

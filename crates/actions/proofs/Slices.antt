@@ -21,8 +21,8 @@ use Rattle.protocol.specs.Command.{orElse, flag}
 use Rattle.protocol.specs.Judge.{keyValue, keyValueGood, keysOf, newEntry, range, shown, succeeds}
 use Rattle.operations.specs.Given.{Deletes, Puts}
 use Rattle.operations.specs.Changes.{put-fits}
-use Rattle.range_replies.specs.Range.{rangeWith}
-use Rattle.range_replies.specs.RangeLaws.{keys-of}
+use Rattle.ranges.specs.Range.{rangeWith}
+use Rattle.ranges.specs.RangeLaws.{keys-of}
 use Rattle.requests.specs.declared.KeyValue.{KeyValue}
 use Rattle.requests.specs.declared.Range.{Range}
 use Rattle.requests.specs.Views.{KeyValueLies, RangeLies, keyValueView, rangeView}

@@ -1,3 +1,4 @@
+// Entries in blocks of 512 bytes: the order of keys, the sum, the working block.
 ghost use mathlib.Core.Path.{_≡_};
 ghost use mathlib.Core.List.{_++_};
 ghost use Prim.Native.Nat.{_+_, _<_, _≤_};
@@ -5,10 +6,9 @@ ghost use lib.ListN.{length, take, drop, replicate};
 ghost use Rattle.block.specs.Order.{cmp};
 ghost use Rattle.block.specs.Word.{wordAt};
 ghost use Rattle.block.specs.Entry.{entry, Sized};
-ghost use Rattle.block.specs.Block.{block, be32, sumFrom, BlockGood};
+ghost use Rattle.block.specs.Block.{block, be32, sumFrom};
 ghost use Rattle.block.specs.Decides.{Decides};
 ghost use Rattle.block.specs.Written.{over};
-ghost use Rattle.block.specs.Direct.{Held, Small};
 
 pub enum Order {
     Less,
@@ -165,76 +165,4 @@ pub fn zeros(s: &[u8]) -> bool
         i += 1;
     }
     o == 0
-}
-
-// The number that bytes 508 to 511 hold.
-fn held(b: &[u8]) -> u64
-    requires { ⌜ length (now b) ≡ 512 ⌝ }
-    ensures { λ r. ⌜ Held (now (b .entry)) r ⌝ }
-{
-    let x = wide(b[508]) * 16777216;
-    let y = wide(b[509]) * 65536;
-    let z = wide(b[510]) * 256;
-    let w = wide(b[511]);
-    (x + y + z + w) as u64
-}
-
-// Whether the lengths and the algorithm keep their limits.
-fn limits(b: &[u8]) -> bool
-    requires { ⌜ length (now b) ≡ 512 ⌝ }
-    ensures { λ r. ⌜ Decides r (Small (now (b .entry))) ⌝ }
-{
-    let n = wide(b[4]) * 256 + wide(b[5]);
-    if b[1] < 1 {
-        return false;
-    }
-    if 64 < b[1] {
-        return false;
-    }
-    if 16 < b[2] {
-        return false;
-    }
-    if 32 < b[3] {
-        return false;
-    }
-    if 384 < n {
-        return false;
-    }
-    if 6 < b[6] {
-        return false;
-    }
-    true
-}
-
-// Whether 512 bytes are the block of an entry.
-pub fn good(b: &[u8]) -> bool
-    requires { ⌜ length (now b) ≡ 512 ⌝ }
-    ensures { λ r. ⌜ Decides r (BlockGood (now (b .entry))) ⌝ }
-{
-    if !limits(b) {
-        return false;
-    }
-    let ke = 8 + wide(b[1]);
-    let ve = 72 + wide(b[2]);
-    let te = 88 + wide(b[3]);
-    let ne = 120 + (wide(b[4]) * 256 + wide(b[5]));
-    if b[0] != 1 {
-        return false;
-    }
-    if b[7] != 0 {
-        return false;
-    }
-    if !zeros(&b[ke..72]) {
-        return false;
-    }
-    if !zeros(&b[ve..88]) {
-        return false;
-    }
-    if !zeros(&b[te..120]) {
-        return false;
-    }
-    if !zeros(&b[ne..508]) {
-        return false;
-    }
-    sum(b) == held(b)
 }

@@ -1,8 +1,8 @@
 // Step 8: whether the body of a command is right for its operation.
-use judgement::broken;
-use judgement::fault;
-use judgement::key_value_good;
-use judgement::range_good;
+use body_rules::broken;
+use body_rules::fault;
+use body_rules::key_value_good;
+use body_rules::range_good;
 use lookups::parts::Part;
 use protocol::Operation;
 use requests::Body;

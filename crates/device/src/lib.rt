@@ -54,7 +54,7 @@ pub fn format(store: &mut [u8], device: &mut Record, key: &[u8]) -> Formatted
     if 64 < key.len() {
         return Formatted::KeyBad;
     }
-    store::blank(store);
+    store_write::blank(store);
     access_write::format_record(device, key);
     Formatted::Made
 }
@@ -221,7 +221,7 @@ pub fn answer(
     if out.len() < 4096 {
         return Response::OutShort;
     }
-    if !store::check(store) {
+    if !store_check::check(store) {
         return Response::StoreBad;
     }
     if !access::record_good(device) {

@@ -1,4 +1,3 @@
-pub mod Tables
 pub mod Bits
 pub mod Judging
 pub mod Walking

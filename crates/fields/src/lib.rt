@@ -2,4 +2,3 @@
 pub mod judge;
 pub mod nested;
 pub mod slots;
-pub mod table;

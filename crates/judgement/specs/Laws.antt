@@ -19,7 +19,7 @@ use Rattle.tree.specs.Tree.{guard, mapO, isSome}
 use Rattle.access.specs.Table as access
 use Rattle.access.specs.Table.{both, within}
 use Rattle.access.specs.Record.{tableOf}
-use Rattle.access.specs.Permission.{permits, permitsAny, permitsRange}
+use Rattle.permission.specs.Permission.{permits, permitsAny, permitsRange}
 use Rattle.protocol.specs.declared.Operation.{Operation}
 use Rattle.protocol.specs.declared.Operation.the-variants.{Noop, Get, GetVersion, GetNext, GetPrevious, GetKeyRange, Put, Delete, FlushAllData, Setup, Security}
 use Rattle.protocol.specs.declared.Asked.the-variants.{NotBuilt}

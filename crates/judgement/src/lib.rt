@@ -1,20 +1,18 @@
-// Document 01, "The order of judgement": the rules of steps 4 to 9.
+// Document 01, "The order of judgement": the rules of steps 4 to 7 and 9.
 use access::Record;
 use protocol::Asked;
 use protocol::Operation;
 use wire::signed::signed;
 ghost use mathlib.Core.Path.{_≡_};
-ghost use mathlib.Core.List.{List};
 ghost use mathlib.Core.Option.{Option};
-ghost use Prim.Native.Nat.{ℕ};
 ghost use Rattle.tree.specs.Tree.{guard};
 ghost use Rattle.access.specs.Table.{aclOf};
 ghost use Rattle.access.specs.Record.{tableOf, Placed};
 ghost use Rattle.protocol.specs.State.{State};
-ghost use Rattle.protocol.specs.Command.{Header, KeyValue, Range, Body};
+ghost use Rattle.protocol.specs.Command.{Header, Body};
 ghost use Rattle.protocol.specs.Operation.{typeOf, asked, askedBy, replyType};
-ghost use Rattle.protocol.specs.Judge.{above, broken, fault, keyValueGood, rangeGood, permitted};
-ghost use Rattle.judgement.specs.Given.{permissionOf, inOrder, headerFault, mostValue, partFault, Lengths, RangeLengths, Keys, Heard, Checked};
+ghost use Rattle.protocol.specs.Judge.{above, permitted};
+ghost use Rattle.judgement.specs.Given.{permissionOf, inOrder, headerFault, Keys, Heard};
 
 // ---- step 6
 
@@ -132,112 +130,6 @@ pub fn reply_type(a: Asked) -> u64
     }
 }
 
-// ---- step 8
-
-// The lengths of a keyValue's key, newVersion, dbVersion and tag.
-pub fn key_value_good(key: usize, new: usize, old: usize, tag: usize) -> bool
-    ensures { λ r. ⌜ ((k : KeyValue) → Lengths k key new old tag → r ≡ keyValueGood k) ⌝ }
-{
-    if key < 1 {
-        return false;
-    }
-    if 64 < key {
-        return false;
-    }
-    if 16 < new {
-        return false;
-    }
-    if 16 < old {
-        return false;
-    }
-    tag <= 32
-}
-
-// Whether startKey and endKey are there, their lengths, and maxReturned as a 64-bit word.
-pub fn range_good(starts: bool, start: usize, ends: bool, end: usize, most: u64) -> bool
-    ensures { λ r. ⌜ ((g : Range) → RangeLengths g (guard starts start) (guard ends end) most → r ≡ rangeGood g) ⌝ }
-{
-    if !starts {
-        return false;
-    }
-    if 64 < start {
-        return false;
-    }
-    if !ends {
-        return false;
-    }
-    if 64 < end {
-        return false;
-    }
-    most <= 32
-}
-
-// The code of a rule, 0 where it is kept.
-pub fn broken(good: bool) -> u64
-    ensures { λ r. ⌜ r ≡ broken good ⌝ }
-{
-    if good {
-        return 0;
-    }
-    16
-}
-
-// The longest value part that an operation may have.
-fn most_value(o: Operation) -> usize
-    ensures { λ r. ⌜ r ≡ mostValue o ⌝ }
-{
-    match o {
-        Operation::Noop => 0,
-        Operation::FlushAllData => 0,
-        Operation::Get => 0,
-        Operation::GetVersion => 0,
-        Operation::GetNext => 0,
-        Operation::GetPrevious => 0,
-        Operation::Put => 384,
-        Operation::Delete => 0,
-        Operation::GetKeyRange => 0,
-        Operation::Setup => 0,
-        Operation::Security => 0,
-    }
-}
-
-// The code of the part that an operation uses.
-fn part_fault(o: Operation, pair: u64, change: u64, range: u64, setup: u64, security: u64) -> u64
-    ensures { λ r. ⌜ r ≡ partFault o pair change range setup security ⌝ }
-{
-    match o {
-        Operation::Noop => 0,
-        Operation::FlushAllData => 0,
-        Operation::Get => pair,
-        Operation::GetVersion => pair,
-        Operation::GetNext => pair,
-        Operation::GetPrevious => pair,
-        Operation::Put => change,
-        Operation::Delete => change,
-        Operation::GetKeyRange => range,
-        Operation::Setup => setup,
-        Operation::Security => security,
-    }
-}
-
-// What is wrong with a body, or 0: from the length of the value part and the codes of the parts.
-pub fn fault(
-    o: Operation,
-    value: usize,
-    pair: u64,
-    change: u64,
-    range: u64,
-    setup: u64,
-    security: u64,
-) -> u64
-    ensures { λ r. ⌜ ((b : Body) (v : List ℕ) → Checked o b v value pair change range setup security → r ≡ fault o b v) ⌝ }
-{
-    if most_value(o) < value {
-        return 16;
-    }
-    part_fault(o, pair, change, range, setup, security)
-}
-
 // ---- step 9
 
 // What an operation needs: nothing, a permission for its key, RANGE for both range keys, or a permission for any key.
@@ -254,15 +146,15 @@ pub fn needed(o: Operation) -> Permission
     match o {
         Operation::Noop => Permission::Free,
         Operation::FlushAllData => Permission::Free,
-        Operation::Get => Permission::Key(access::READ),
-        Operation::GetVersion => Permission::Key(access::READ),
-        Operation::GetNext => Permission::Key(access::READ),
-        Operation::GetPrevious => Permission::Key(access::READ),
-        Operation::Put => Permission::Key(access::WRITE),
-        Operation::Delete => Permission::Key(access::DELETE),
+        Operation::Get => Permission::Key(permission::READ),
+        Operation::GetVersion => Permission::Key(permission::READ),
+        Operation::GetNext => Permission::Key(permission::READ),
+        Operation::GetPrevious => Permission::Key(permission::READ),
+        Operation::Put => Permission::Key(permission::WRITE),
+        Operation::Delete => Permission::Key(permission::DELETE),
         Operation::GetKeyRange => Permission::Both,
-        Operation::Setup => Permission::Any(access::SETUP),
-        Operation::Security => Permission::Any(access::SECURITY),
+        Operation::Setup => Permission::Any(permission::SETUP),
+        Operation::Security => Permission::Any(permission::SECURITY),
     }
 }
 
@@ -281,8 +173,8 @@ pub fn permitted(
 {
     match needed(o) {
         Permission::Free => true,
-        Permission::Key(p) => access::permits(device, place, protected, p, key),
-        Permission::Both => access::permits_range(device, place, protected, start, end),
-        Permission::Any(p) => access::permits_any(device, place, protected, p),
+        Permission::Key(p) => permission::permits(device, place, protected, p, key),
+        Permission::Both => permission::permits_range(device, place, protected, start, end),
+        Permission::Any(p) => permission::permits_any(device, place, protected, p),
     }
 }

@@ -14,7 +14,7 @@ pub enum Local {
 pub fn local_find(store: &[u8], key: &[u8]) -> Local
     ensures { λ r. ⌜ LocalIs (now (store .entry)) (now (key .entry)) r ⌝ }
 {
-    if !store::check(store) {
+    if !store_check::check(store) {
         return Local::StoreBad;
     }
     match store::find(store, key) {

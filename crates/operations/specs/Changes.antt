@@ -10,9 +10,8 @@ use lib.ListN.{length}
 use borrow.Author.Tests.{eq-eqb, ne-eqb, leb-true}
 use Rattle.wire.specs.Reader.{choose}
 use Rattle.tree.specs.Tree.{guard}
-use Rattle.access.specs.Table.{both, either, within}
+use Rattle.access.specs.Table.{both, either, within, sameBytes}
 use Rattle.access.specs.Laws.{both-fst, both-snd, within-low, within-high}
-use Rattle.access.specs.Permission.{sameBytes}
 use Rattle.access.specs.Record.{withClusterVersion}
 use Rattle.block.specs.declared.Order.{Order}
 use Rattle.block.specs.Order.{cmp}
@@ -27,7 +26,7 @@ use Rattle.store.specs.declared.Parts.{Parts}
 use Rattle.store.specs.Store.{entriesOf, Good}
 use Rattle.store.specs.Entries.{partOf, pick, findIn, hasRoom, putAnswer, putStore, deleteStore}
 use Rattle.store.specs.Kept.{put-kept, put-same, delete-kept}
-use Rattle.store.specs.Change.{kept}
+use Rattle.store_write.specs.Change.{kept}
 use Rattle.protocol.specs.State.{State, withDevice}
 use Rattle.protocol.specs.Command.{KeyValue}
 use Rattle.protocol.specs.Judge.{bare, fails, succeeds, changed, setUp, entryAt, entryOf, versionOf, put, deleteBy, keyValueGood, newEntry}

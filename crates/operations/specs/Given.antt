@@ -7,7 +7,7 @@ use Prim.Native.Nat.{ℕ, _+_, _≤_}
 use lib.Dec.{eqb}
 use lib.ListN.{length}
 use Rattle.wire.specs.Reader.{choose}
-use Rattle.access.specs.Permission.{sameBytes}
+use Rattle.access.specs.Table.{sameBytes}
 use Rattle.block.specs.Entry.{Entry}
 use Rattle.store.specs.declared.Parts.{Parts}
 use Rattle.store.specs.declared.PutAnswer.{PutAnswer}

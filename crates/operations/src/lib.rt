@@ -7,7 +7,7 @@ use store::PutAnswer;
 ghost use mathlib.Core.Path.{_≡_};
 ghost use Rattle.tree.specs.Tree.{guard};
 ghost use Rattle.block.specs.Entry.{entry, Fit};
-ghost use Rattle.access.specs.Permission.{sameBytes};
+ghost use Rattle.access.specs.Table.{sameBytes};
 ghost use Rattle.store.specs.Store.{Good};
 ghost use Rattle.store.specs.Entries.{nextIn, previousIn};
 ghost use Rattle.protocol.specs.State.{State, entries};
@@ -136,7 +136,7 @@ pub fn put(
     if !version_fits(compare_version(store, key, old), old, force) {
         return 8;
     }
-    put_code(store::put(store, key, new, tag, value, algorithm))
+    put_code(store_write::put(store, key, new, tag, value, algorithm))
 }
 
 fn delete_code(v: Version, force: bool) -> u64
@@ -161,7 +161,7 @@ pub fn delete(store: &mut [u8], key: &[u8], old: &[u8], force: bool) -> u64
     if code != 1 {
         return code;
     }
-    store::delete(store, key);
+    store_write::delete(store, key);
     1
 }
 

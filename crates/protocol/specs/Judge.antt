@@ -8,9 +8,9 @@ use lib.ListN.{length, take, getD}
 use Rattle.wire.specs.Reader.{choose}
 use Rattle.tree.specs.Tree.{isSome}
 use Rattle.access.specs.Table as access
-use Rattle.access.specs.Table.{both, either, all, within, named, maskOf, tableGood}
-use Rattle.access.specs.Permission.{sameBytes, permits, permitsAny, permitsRange}
+use Rattle.access.specs.Table.{both, either, all, within, sameBytes, named, maskOf, tableGood}
 use Rattle.access.specs.Record.{tableBytes, withClusterVersion}
+use Rattle.permission.specs.Permission.{permits, permitsAny, permitsRange}
 use Rattle.block.specs.Order.{cmp}
 use Rattle.block.specs.Block.{isLess, isEqual}
 use Rattle.block.specs.Entry.{Entry, entry, noEntry}

@@ -13,8 +13,8 @@ use Rattle.tree.specs.Tree.{Tree, done, int, raw}
 use Rattle.encoding.specs.Encode.{intField, lenField, encode, intO}
 use Rattle.signature.specs.Hmac.{hmac}
 use Rattle.access.specs.Table as access
-use Rattle.access.specs.Table.{both, either}
-use Rattle.access.specs.Permission.{sameBytes, fitsAt, fits}
+use Rattle.access.specs.Table.{both, either, sameBytes}
+use Rattle.permission.specs.Permission.{fitsAt, fits}
 use Rattle.block.specs.declared.Order.{Order}
 use Rattle.block.specs.declared.Order.the-variants.{Less, Equal, Greater}
 use Rattle.block.specs.Order.{cmp}

@@ -1,11 +1,10 @@
 -- What the writing of a run of keys uses.
-use mathlib.Core.Path.{_≡_, refl, sym, ap, _∙_}
-use mathlib.Core.Bool.{Bool, true, false}
+use mathlib.Core.Path.{_≡_, sym, ap, _∙_}
+use mathlib.Core.Bool.{Bool}
 use mathlib.Core.List.{List, [], _∷_}
-use Prim.Native.Nat.{ℕ, zero, suc, _+_, _-_, _≤_, _<_}
-use native.Mathlib.Nat.{not-suc-le-zero, le-of-suc-le-suc}
+use Prim.Native.Nat.{ℕ, zero, suc, _+_, _-_, _≤_}
 use native.Mathlib.Omega.{arith}
-use lib.ListN.{length, getD, take, drop}
+use lib.ListN.{length, take, drop}
 use lib.Seq.{drop-length}
 use Rattle.tree.specs.Tree.{done}
 use Rattle.encoding.specs.Encode.{head, lenField, encode, each}
@@ -17,27 +16,9 @@ use Rattle.store.specs.declared.Parts.{Parts}
 use Rattle.store.specs.Store.{entriesOf, AllFit, Good}
 use Rattle.store.specs.Entries.{EntryAt}
 use Rattle.protocol.specs.Judge.{range}
-use Rattle.replies.specs.Parts.{bodyBytes}
-use Rattle.range_replies.specs.Keys.{keyAt, onward, keysFrom}
-
-pub onward-next : (b : Bool) (first i : ℕ) → onward b (onward b first 1) i ≡ onward b first (suc i)
-onward-next false first i = omega arith
-onward-next true first i = omega arith
-
-pub onward-none : (b : Bool) (first : ℕ) → onward b first 0 ≡ first
-onward-none false first = omega arith
-onward-none true first = omega arith
-
-pub keys-length : (b : Bool) (first n : ℕ) (es : List Entry) → length (keysFrom b first n es) ≡ n
-unfolding keysFrom
-keys-length b first zero es = refl
-keys-length b first (suc n) es = ap suc (keys-length b (onward b first 1) n es)
-
-pub keys-at : (b : Bool) (first n : ℕ) (es : List Entry) (i : ℕ) → i < n → getD (keysFrom b first n es) i [] ≡ keyAt es (onward b first i)
-unfolding keysFrom
-keys-at b first zero es i h = absurd (not-suc-le-zero h)
-keys-at b first (suc n) es zero h = ap (keyAt es) (sym (onward-none b first))
-keys-at b first (suc n) es (suc i) h = keys-at b (onward b first 1) n es i (le-of-suc-le-suc h) ∙ ap (keyAt es) (onward-next b first i)
+use Rattle.reply_parts.specs.Parts.{bodyBytes}
+use Rattle.ranges.specs.Keys.{keyAt, onward, keysFrom}
+use Rattle.ranges.specs.KeysLaws.{keys-length, keys-at}
 
 -- a key is at most 64 bytes
 fit-key : (es : List Entry) (i : ℕ) → AllFit es → length (keyAt es i) ≤ 64

@@ -1,4 +1,1 @@
-pub mod Keys
 pub mod KeysLaws
-pub mod Range
-pub mod RangeLaws

@@ -1,28 +1,20 @@
 // The reply of GETKEYRANGE, document 01, "Replies": "range with 8 for each key".
-use writers::Maybe;
-
-// A run of places of the store: the first one, and how many.
-pub struct Places {
-    pub first: usize,
-    pub count: usize,
-}
-
 ghost use mathlib.Core.Path.{_≡_};
 ghost use mathlib.Core.List.{[]};
 ghost use mathlib.Core.Bool.{true};
-ghost use Prim.Native.Nat.{_+_, _-_, _≤_, min};
+ghost use Prim.Native.Nat.{_+_, _≤_};
 ghost use lib.ListN.{length};
 ghost use Rattle.tree.specs.Tree.{done};
 ghost use Rattle.encoding.specs.Encode.{lenField, encode, each};
 ghost use Rattle.writers.specs.Pushed.{Pushed, Starts, maybe};
-ghost use Rattle.wire.specs.Reader.{choose};
 ghost use Rattle.store.specs.Store.{entriesOf, Good};
-ghost use Rattle.store.specs.Entries.{below, upTo};
 ghost use Rattle.protocol.specs.Judge.{range, keysOf};
 ghost use Rattle.protocol.specs.Reply.{commandTree, signedReply};
-ghost use Rattle.replies.specs.Parts.{bodyBytes};
-ghost use Rattle.range_replies.specs.Keys.{keyAt, onward, keysFrom, Run};
-ghost use Rattle.range_replies.specs.Range.{rangeWith, PlacesOf};
+ghost use Rattle.reply_parts.specs.Parts.{bodyBytes};
+ghost use Rattle.ranges.specs.Keys.{keyAt, onward, keysFrom, Run};
+ghost use Rattle.ranges.specs.Range.{rangeWith};
+use ranges::range_places;
+use writers::Maybe;
 
 // The place `i` steps on from the first.
 fn place(first: usize, i: usize, reverse: bool) -> usize
@@ -43,7 +35,7 @@ fn push_key(out: &mut [u8], at: usize, store: &[u8], i: usize) -> usize
     let e = store::entry_at(store, i);
     let start = e.key.start;
     let end = start + e.key.len;
-    writers::push_raw(out, at, 8, &store[start..end])
+    field_writers::push_raw(out, at, 8, &store[start..end])
 }
 
 // The keys of a run of places, in its order.
@@ -80,8 +72,8 @@ fn push_range(
     ensures { λ r. ⌜ Pushed r at (bodyBytes (range (keysFrom reverse first count (entriesOf (now (store .entry)))))) (now (out .entry)) (now (out .exit)) × (at ≤ r + 2558) ⌝ }
 {
     let a = push_keys(out, at, store, first, count, reverse);
-    let b = writers::push_head(out, a, 2, at - a);
-    writers::push_head(out, b, 2, at - b)
+    let b = field_writers::push_head(out, a, 2, at - a);
+    field_writers::push_head(out, b, 2, at - b)
 }
 
 // A whole signed reply of success with the keys of `count` places of the store from `first` on: ascending, or descending with `reverse`.
@@ -101,70 +93,11 @@ pub fn put_range(
     ensures { λ r. ⌜ Starts r (signedReply identity (now (key .entry)) (commandTree connection (maybe ack) kind (range (keysFrom reverse first count (entriesOf (now (store .entry))))) 1) []) (now (out .entry)) (now (out .exit)) ⌝ }
 {
     let mut s = [0u8; 3072];
-    let a = replies::push_status(&mut s, 3072, 1);
+    let a = reply_parts::push_status(&mut s, 3072, 1);
     let b = push_range(&mut s, a, store, first, count, reverse);
-    let c = replies::push_header(&mut s, b, connection, ack, kind);
-    let d = replies::finish(&mut s, c, 3072, key, identity);
+    let c = reply_parts::push_header(&mut s, b, connection, ack, kind);
+    let d = reply_parts::finish(&mut s, c, 3072, key, identity);
     writers::copy(out, &s[d..3072])
-}
-
-// The first place of a range that starts at a key, inclusive or not.
-fn bound(store: &[u8], key: &[u8], inclusive: bool) -> usize
-    requires { ⌜ Good (now store) ⌝ }
-    ensures { λ r. ⌜ r ≡ choose inclusive (below (now (key .entry)) (entriesOf (now (store .entry)))) (upTo (now (key .entry)) (entriesOf (now (store .entry)))) ⌝ }
-{
-    if inclusive {
-        return store::first_from(store, key);
-    }
-    store::first_above(store, key)
-}
-
-// The difference, 0 where it would be negative.
-fn less(a: usize, b: usize) -> usize
-    ensures { λ r. ⌜ r ≡ a - b ⌝ }
-{
-    if a < b {
-        return 0;
-    }
-    a - b
-}
-
-fn least(a: usize, b: usize) -> usize
-    ensures { λ r. ⌜ r ≡ min a b ⌝ }
-{
-    if a < b {
-        return a;
-    }
-    b
-}
-
-fn either(test: bool, a: usize, b: usize) -> usize
-    ensures { λ r. ⌜ r ≡ choose test a b ⌝ }
-{
-    if test {
-        return a;
-    }
-    b
-}
-
-// The run of places that a range asks for.
-pub fn range_places(
-    store: &[u8],
-    start: &[u8],
-    end: &[u8],
-    start_inclusive: bool,
-    end_inclusive: bool,
-    most: usize,
-    reverse: bool,
-) -> Places
-    requires { ⌜ Good (now store) ⌝ }
-    ensures { λ r. ⌜ PlacesOf (rangeWith (now (start .entry)) (now (end .entry)) «start_inclusive» «end_inclusive» most reverse) (entriesOf (now (store .entry))) r ⌝ }
-{
-    let low = bound(store, start, start_inclusive);
-    let high = bound(store, end, !end_inclusive);
-    let first = either(reverse, less(high, 1), low);
-    let count = least(most, less(high, low));
-    Places { first, count }
 }
 
 // A whole signed reply of success with the keys that a range asks for.

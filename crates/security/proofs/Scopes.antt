@@ -15,8 +15,7 @@ use Rattle.tree.specs.declared.Kind.{Kind}
 use Rattle.tree.specs.declared.Kind.the-variants as kind
 use Rattle.fields.specs.declared.slots.Slots.{Slots}
 use Rattle.access.specs.Table as access
-use Rattle.access.specs.Table.{both, all, within, named, maskOf, maskGood, scopeGood}
-use Rattle.access.specs.Permission.{isEmpty}
+use Rattle.access.specs.Table.{both, all, within, isEmpty, named, maskOf, maskGood, scopeGood}
 use Rattle.access.specs.Laws.{both-snd}
 use Rattle.access.specs.Mask.{mask-good}
 use Rattle.lookups.specs.Views.{Inside, bytesAt, treeOf, orEmpty, numView, Level, NumIs, PartIs}

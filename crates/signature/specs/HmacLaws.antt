@@ -1,33 +1,14 @@
 -- What follows of the definitions of `Hmac`. Assumes nothing.
-use mathlib.Core.Path.{_≡_, refl, sym, ap, ap₂, _∙_}
-use mathlib.Core.List.{List, [], _∷_, _++_}
+use mathlib.Core.Path.{_≡_, refl, sym, ap₂, _∙_}
+use mathlib.Core.List.{List, [], _∷_}
 use mathlib.Core.Bool.{Bool, true, false}
-use Prim.Native.Nat.{ℕ, _-_, _≤_}
-use native.Mathlib.Omega.{arith}
-use lib.Bits.{bitXor}
+use Prim.Native.Nat.{ℕ, _≤_}
 use lib.Dec.{eqb, leb}
 use borrow.Author.Tests.{eq-eqb, eqb-true, le-leb}
-use lib.ListN.{length, replicate, length-append, length-replicate, length-map}
-use Rattle.signature.specs.declared.State.{State}
-use Rattle.signature.specs.Sha1.{pick, sha1Words, sha1, be, bytes, finish, compress, H0, Answer}
-use Rattle.signature.specs.Sha1Laws.{finish-after}
-use Rattle.signature.specs.Hmac.{masked, keyedWords, hmac, hmacAnswer, sameBytes, verified}
-
-filled-length : (key : List ℕ) → length key ≤ 64 → length (key ++ replicate (64 - length key) 0) ≡ 64
-filled-length key h = simp (length-append, length-replicate) (omega arith)
-
-pub masked-length : (v : ℕ) (key : List ℕ) → length key ≤ 64 → length (masked v key) ≡ 64
-unfolding masked
-masked-length v key h = length-map (key ++ replicate (64 - length key) 0) (λ b. bitXor b v) ∙ filled-length key h
-
--- the two digests, each from the hash value after the block of the key
-pub keyed-parts : (key text : List ℕ) → length key ≤ 64
-    → finish (compress H0 (masked 0x5c key)) 64 (bytes (finish (compress H0 (masked 0x36 key)) 64 text)) ≡ keyedWords key text
-unfolding keyedWords sha1 sha1Words
-keyed-parts key text h =
-    sym
-    (finish-after H0 (masked 0x5c key) (sha1 (masked 0x36 key ++ text)) (masked-length 0x5c key h)
-    ∙ ap (λ w. finish (compress H0 (masked 0x5c key)) 64 (bytes w)) (finish-after H0 (masked 0x36 key) text (masked-length 0x36 key h)))
+use lib.ListN.{length}
+use Rattle.sha1.specs.declared.State.{State}
+use Rattle.sha1.specs.Sha1.{pick, be, bytes, Answer}
+use Rattle.signature.specs.Hmac.{hmac, hmacAnswer, sameBytes, verified}
 
 pub sameBytes-self : (xs : List ℕ) → sameBytes xs xs ≡ true
 unfolding sameBytes

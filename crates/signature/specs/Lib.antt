@@ -1,6 +1,4 @@
 -- The definitions that the contracts of `signature` cite, and what follows of them.
-pub mod Sha1
-pub mod Sha1Laws
 pub mod Hmac
 pub mod HmacLaws
 pub mod Steps

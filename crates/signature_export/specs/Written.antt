@@ -3,7 +3,7 @@ use mathlib.Core.Path.{_≡_}
 use mathlib.Core.List.{List}
 use Prim.Native.Nat.{ℕ}
 use lib.Dec.{eqb}
-use Rattle.signature.specs.Sha1.{pick, Answer}
+use Rattle.sha1.specs.Sha1.{pick, Answer}
 
 -- the number of the answer, and its digest where there is one; else the lent bytes as they were
 pub record Written (a : Answer) (before : List ℕ) (r : ℕ) (after : List ℕ) : Type 0 where

@@ -1,8 +1,8 @@
 // The calls of `signature` for C, as the benchmark links them.
-ghost use Rattle.signature.specs.Sha1.{sha1Answer};
+ghost use Rattle.sha1.specs.Sha1.{sha1Answer};
 ghost use Rattle.signature.specs.Hmac.{hmacAnswer};
 ghost use Rattle.signature_export.specs.Written.{Written};
-use signature::Digest;
+use sha1::Digest;
 use signature::Mac;
 
 // 0 and the digest; or 1, and nothing is written.
@@ -10,9 +10,9 @@ use signature::Mac;
 pub extern "C" fn signature_sha1(text: &[u8], digest: &mut [u8; 20]) -> u32
     ensures { λ r. ⌜ Written (sha1Answer (now (text .entry))) (now (digest .entry)) r (now (digest .exit)) ⌝ }
 {
-    match signature::sha1(text) {
+    match sha1::sha1(text) {
         Digest::Made(s) => {
-            *digest = signature::bytes(s);
+            *digest = sha1::bytes(s);
             0
         }
         Digest::TooLong => 1,
@@ -26,7 +26,7 @@ pub extern "C" fn signature_hmac(key: &[u8], text: &[u8], digest: &mut [u8; 20])
 {
     match signature::hmac(key, text) {
         Mac::Made(s) => {
-            *digest = signature::bytes(s);
+            *digest = sha1::bytes(s);
             0
         }
         Mac::KeyTooLong => 1,

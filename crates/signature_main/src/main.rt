@@ -1,8 +1,8 @@
 // SHA-1, HMAC and verification of published and outside vectors, a line for each.
 use libc::STDOUT_FILENO;
-use signature::Digest;
+use sha1::Digest;
+use sha1::State;
 use signature::Mac;
-use signature::State;
 
 fn digit(n: u8) -> u8 {
     let k = n % 16;
@@ -10,7 +10,7 @@ fn digit(n: u8) -> u8 {
 }
 
 fn show(s: State) {
-    let b = signature::bytes(s);
+    let b = sha1::bytes(s);
     let mut line = [10u8; 41];
     let mut i = 0;
     while i < 20 {
@@ -23,7 +23,7 @@ fn show(s: State) {
 
 fn sha1(name: &[u8], text: &[u8]) {
     io::write_all(STDOUT_FILENO, name);
-    match signature::sha1(text) {
+    match sha1::sha1(text) {
         Digest::Made(s) => show(s),
         Digest::TooLong => {
             io::write_all(STDOUT_FILENO, b"text too long\n");

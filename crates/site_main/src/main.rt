@@ -20,7 +20,7 @@ use libc::STDIN_FILENO;
 use libc::STDOUT_FILENO;
 use local::Local;
 use lookups::repeated::next_numbered;
-use signature::Digest;
+use sha1::Digest;
 use wire::field::Found;
 use wire::field::next_of;
 use wire::field::read_field;
@@ -239,8 +239,8 @@ fn hex(b: &[u8]) {
 }
 
 fn sha1(b: &[u8]) {
-    if let Digest::Made(s) = signature::sha1(b) {
-        let d = signature::bytes(s);
+    if let Digest::Made(s) = sha1::sha1(b) {
+        let d = sha1::bytes(s);
         hex(&d);
     }
 }

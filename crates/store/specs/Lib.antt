@@ -6,8 +6,6 @@ pub mod Walk
 pub mod Check
 pub mod EntryAt
 pub mod Places
-pub mod Move
-pub mod Change
 pub mod Kept
 pub mod Readings
 pub mod Range

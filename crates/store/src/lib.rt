@@ -1,17 +1,11 @@
-use block::Order;
+// The entries of a lent store: what calls on it answer, and the searches in it.
 ghost use mathlib.Core.Path.{_≡_};
-ghost use mathlib.Core.List.{[]};
-ghost use Prim.Native.Nat.{_+_, _-_, _*_, _≤_, _<_};
-ghost use lib.ListN.{length, take, drop, replicate};
-ghost use Rattle.block.specs.Entry.{entry, Sized};
-ghost use Rattle.block.specs.Block.{BlockGood, decode};
+ghost use Prim.Native.Nat.{_<_};
+ghost use lib.ListN.{length};
 ghost use Rattle.block.specs.Decides.{Decides};
-ghost use Rattle.block.specs.Written.{over};
-ghost use Rattle.store.specs.Check.{GoodFrom};
-ghost use Rattle.store.specs.StoreLaws.{removeAt};
-ghost use Rattle.store.specs.Change.{insertAnswer, insertStore};
-ghost use Rattle.store.specs.Store.{blocksIn, bytesOf, entriesOf, Good, storeGood};
-ghost use Rattle.store.specs.Entries.{Sought, EntryAt, noParts, below, upTo, nextIn, previousIn, putAnswer, putStore, deleteAnswer, deleteStore};
+ghost use Rattle.store.specs.Store.{entriesOf, Good};
+ghost use Rattle.store.specs.Entries.{Sought, EntryAt, noParts, below, upTo, nextIn, previousIn};
+use block::Order;
 
 // Where a key stands, or would stand.
 pub enum Found {
@@ -47,55 +41,6 @@ pub enum PutAnswer {
 pub enum DeleteAnswer {
     Deleted,
     Missing,
-}
-
-// Whether whole blocks meet every block rule, used ones first and their keys ascending.
-fn blocks_good(store: &[u8]) -> bool
-    requires { ⌜ length (now store) ≡ blocksIn (now store) * 512 ⌝ }
-    ensures { λ r. ⌜ Decides r (GoodFrom [] (now (store .entry)) (blocksIn (now (store .entry)))) ⌝ }
-{
-    let n = store.len() / 512;
-    let mut i: usize = 0;
-    let mut a: usize = 0;
-    let mut p: usize = 0;
-    let mut q: usize = 0;
-    while i < n {
-        if store[a] == 0 {
-            return block::zeros(&store[a..]);
-        }
-        let e = a + 512;
-        if !block::good(&store[a..e]) {
-            return false;
-        }
-        let ks = a + 8;
-        let ke = ks + block::wide(store[a + 1]);
-        match block::compare(&store[p..q], &store[ks..ke]) {
-            Order::Less => {}
-            Order::Equal => return false,
-            Order::Greater => return false,
-        }
-        p = ks;
-        q = ke;
-        i += 1;
-        a += 512;
-    }
-    true
-}
-
-// Whether 1 to 128 blocks meet every block rule; false is refusal 2.
-pub fn check(store: &[u8]) -> bool
-    ensures { λ r. ⌜ r ≡ storeGood (now (store .entry)) ⌝ }
-{
-    if store.len() < 512 {
-        return false;
-    }
-    if 65536 < store.len() {
-        return false;
-    }
-    if store.len() % 512 != 0 {
-        return false;
-    }
-    blocks_good(store)
 }
 
 // The number of used blocks.
@@ -243,118 +188,5 @@ fn no_parts() -> Parts
         tag: p,
         value: p,
         algorithm: 0,
-    }
-}
-
-// Moves the bytes from a up to e up by a block.
-fn move_up(store: &mut [u8], a: usize, e: usize)
-    requires { ⌜ (a ≤ e) × (e + 512 ≤ length (now store)) ⌝ }
-    ensures { λ _. ⌜ now (store .exit) ≡ over (now (store .entry)) (a + 512) (take (e - a) (drop a (now (store .entry)))) ⌝ }
-{
-    let mut j = e;
-    while a < j {
-        j -= 1;
-        store[j + 512] = store[j];
-    }
-}
-
-// Moves the bytes that stand a block above a up to e down to there.
-fn move_down(store: &mut [u8], a: usize, e: usize)
-    requires { ⌜ (a ≤ e) × (e + 512 ≤ length (now store)) ⌝ }
-    ensures { λ _. ⌜ now (store .exit) ≡ over (now (store .entry)) a (take (e - a) (drop (a + 512) (now (store .entry)))) ⌝ }
-{
-    let mut j = a;
-    while j < e {
-        store[j] = store[j + 512];
-        j += 1;
-    }
-}
-
-// Sets n bytes from a on to zero.
-fn clear(store: &mut [u8], a: usize, n: usize)
-    requires { ⌜ a + n ≤ length (now store) ⌝ }
-    ensures { λ _. ⌜ now (store .exit) ≡ over (now (store .entry)) a (replicate n 0) ⌝ }
-{
-    let mut j: usize = 0;
-    while j < n {
-        store[a + j] = 0;
-        j += 1;
-    }
-}
-
-// Makes every block blank.
-pub fn blank(store: &mut [u8])
-    ensures { λ _. ⌜ now (store .exit) ≡ replicate (length (now (store .entry))) 0 ⌝ }
-{
-    let n = store.len();
-    clear(store, 0, n);
-}
-
-// Puts a block in at a place, if one is blank; those from there on move up.
-fn insert(store: &mut [u8], i: usize, b: &[u8]) -> PutAnswer
-    requires { ⌜ Good (now store) × (BlockGood (now b) × (i ≤ length (entriesOf (now store)))) ⌝ }
-    ensures { λ r. ⌜ r ≡ insertAnswer (now (store .entry)) ⌝ }
-    ensures { λ r. ⌜ now (store .exit) ≡ insertStore (now (store .entry)) i (decode (now (b .entry))) ⌝ }
-{
-    let end = count(store) * 512;
-    if store.len() <= end {
-        return PutAnswer::Full;
-    }
-    let a = i * 512;
-    move_up(store, a, end);
-    block::copy(store, a, b);
-    PutAnswer::Stored
-}
-
-// Stores an entry: in place of the one under its key, or where its key goes.
-pub fn put(
-    store: &mut [u8],
-    key: &[u8],
-    version: &[u8],
-    tag: &[u8],
-    value: &[u8],
-    algorithm: u8,
-) -> PutAnswer
-    requires { ⌜ Good (now store) × Sized (entry (now key) (now version) (now tag) (now value) algorithm) ⌝ }
-    ensures { λ r. ⌜ r ≡ putAnswer (now (store .entry)) (entry (now (key .entry)) (now (version .entry)) (now (tag .entry)) (now (value .entry)) algorithm) ⌝ }
-    ensures { λ r. ⌜ now (store .exit) ≡ putStore (now (store .entry)) (entry (now (key .entry)) (now (version .entry)) (now (tag .entry)) (now (value .entry)) algorithm) ⌝ }
-{
-    let b = block::make(key, version, tag, value, algorithm);
-    if !block::good(&b) {
-        return PutAnswer::Unfit;
-    }
-    match find(store, key) {
-        Found::At(i) => {
-            let a = i * 512;
-            block::copy(store, a, &b);
-            PutAnswer::Stored
-        }
-        Found::Gap(i) => insert(store, i, &b),
-    }
-}
-
-// Takes the block at a place out; those behind it move down, and the last used one becomes blank.
-fn remove(store: &mut [u8], i: usize)
-    requires { ⌜ Good (now store) × (i < length (entriesOf (now store))) ⌝ }
-    ensures { λ _. ⌜ now (store .exit) ≡ bytesOf (blocksIn (now (store .entry))) (removeAt i (entriesOf (now (store .entry)))) ⌝ }
-{
-    let last = count(store) * 512 - 512;
-    let a = i * 512;
-    move_down(store, a, last);
-    clear(store, last, 512);
-}
-
-// Removes the entry under a key; its room is used again.
-pub fn delete(store: &mut [u8], key: &[u8]) -> DeleteAnswer
-    requires { ⌜ Good (now store) ⌝ }
-    ensures { λ r. ⌜ r ≡ deleteAnswer (now (store .entry)) (now (key .entry)) ⌝ }
-    ensures { λ r. ⌜ now (store .exit) ≡ deleteStore (now (store .entry)) (now (key .entry)) ⌝ }
-{
-    match find(store, key) {
-        Found::At(i) => {
-            remove(store, i);
-            DeleteAnswer::Deleted
-        }
-        Found::Gap(_) => DeleteAnswer::Missing,
     }
 }

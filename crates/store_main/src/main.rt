@@ -9,7 +9,7 @@ ghost use lib.ListN.{length};
 
 fn main() {
     let mut lent = [0u8; 65536];
-    store::blank(&mut lent);
+    store_write::blank(&mut lent);
     fill(&mut lent);
     show(b"full ", 128, put(&mut lent, 128), &lent);
     show(b"over ", 261, put(&mut lent, 261), &lent);
@@ -67,7 +67,7 @@ fn put(lent: &mut [u8], n: usize) -> u64 {
 fn put_parts(lent: &mut [u8], key: &[u8], rising: &[u8], n: usize) -> u64
     requires { ⌜ (length (now key) ≡ 64) × (length (now rising) ≡ 384) ⌝ }
 {
-    if !store::check(lent) {
+    if !store_check::check(lent) {
         return 9;
     }
     let k = n % 64 + 1;
@@ -75,7 +75,7 @@ fn put_parts(lent: &mut [u8], key: &[u8], rising: &[u8], n: usize) -> u64
     let t = n % 33;
     let w = n % 129 * 3;
     let g = (n % 7) as u8;
-    match store::put(
+    match store_write::put(
         lent,
         &key[0..k],
         &rising[0..v],
@@ -99,11 +99,11 @@ fn delete(lent: &mut [u8], n: usize) -> u64 {
 fn delete_key(lent: &mut [u8], key: &[u8], n: usize) -> u64
     requires { ⌜ length (now key) ≡ 64 ⌝ }
 {
-    if !store::check(lent) {
+    if !store_check::check(lent) {
         return 9;
     }
     let k = n % 64 + 1;
-    match store::delete(lent, &key[0..k]) {
+    match store_write::delete(lent, &key[0..k]) {
         DeleteAnswer::Deleted => 0,
         DeleteAnswer::Missing => 1,
     }

@@ -1,15 +1,15 @@
 // Prints the verdict for each cell of docs/VERDICTS.md, over a record that holds that page's table.
-use access::DELETE;
 use access::Found;
-use access::RANGE;
-use access::READ;
 use access::Record;
-use access::SECURITY;
-use access::SETUP;
-use access::WRITE;
 use access_write::add_acl;
 use access_write::add_scope;
 use libc::STDOUT_FILENO;
+use permission::DELETE;
+use permission::RANGE;
+use permission::READ;
+use permission::SECURITY;
+use permission::SETUP;
+use permission::WRITE;
 ghost use Prim.Native.Nat.{_<_};
 
 const MINUS_ONE: u64 = 0xffff_ffff_ffff_ffff;
@@ -72,7 +72,7 @@ fn judge(device: &Record, identity: u64, protected: bool, permission: u8, key: &
     match access::find_identity(device, identity) {
         Found::Nobody => Verdict::Nobody,
         Found::At(place) => {
-            if access::permits(device, place, protected, permission, key) {
+            if permission::permits(device, place, protected, permission, key) {
                 return Verdict::Yes;
             }
             Verdict::No
@@ -89,7 +89,7 @@ fn judge_any(device: &Record, identity: u64, protected: bool, permission: u8) ->
     match access::find_identity(device, identity) {
         Found::Nobody => Verdict::Nobody,
         Found::At(place) => {
-            if access::permits_any(device, place, protected, permission) {
+            if permission::permits_any(device, place, protected, permission) {
                 return Verdict::Yes;
             }
             Verdict::No
@@ -110,7 +110,7 @@ fn judge_range(
     match access::find_identity(device, identity) {
         Found::Nobody => Verdict::Nobody,
         Found::At(place) => {
-            if access::permits_range(device, place, protected, start, end) {
+            if permission::permits_range(device, place, protected, start, end) {
                 return Verdict::Yes;
             }
             Verdict::No

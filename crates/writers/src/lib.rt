@@ -1,13 +1,11 @@
-// Writers of fields. A message is written from its end to its front, so that the length of each part is known when its head is due:
-// each writer puts its bytes right before `at` and returns where they start. All other bytes of the buffer stay as they are.
+// Bytes and varints written into a lent buffer. A message is written from its end to its front, so that the length of each part is known when its head
+// is due: each writer puts its bytes right before `at` and returns where they start. All other bytes of the buffer stay as they are.
 ghost use mathlib.Core.Path.{_≡_};
 ghost use mathlib.Core.List.{[], _∷_};
-ghost use Prim.Native.Nat.{_+_, _^_, _<_, _≤_};
+ghost use Prim.Native.Nat.{_+_, _≤_};
 ghost use lib.ListN.{length};
 ghost use Rattle.wire.specs.Varint.{varintBytes};
-ghost use Rattle.tree.specs.Tree.{done};
-ghost use Rattle.encoding.specs.Encode.{tag, intField, head, lenField, encode, intO, intIf, rawIf};
-ghost use Rattle.writers.specs.Pushed.{Pushed, Starts, be32, maybe};
+ghost use Rattle.writers.specs.Pushed.{Pushed, Starts, be32};
 
 // A number, or none.
 pub enum Maybe {
@@ -98,72 +96,4 @@ pub fn push_varint(out: &mut [u8], at: usize, v: u64) -> usize
         return push_groups(out, at, v);
     }
     push_byte(out, at, v as u8)
-}
-
-// A tag: field number and wire type.
-pub fn push_tag(out: &mut [u8], at: usize, n: u64, w: u64) -> usize
-    requires { ⌜ (n < 2 ^ 29) × (w < 8) × (5 ≤ at) × (at ≤ length (now out)) ⌝ }
-    ensures { λ r. ⌜ Pushed r at (tag n w) (now (out .entry)) (now (out .exit)) × (at ≤ r + 5) ⌝ }
-{
-    push_varint(out, at, 8 * n + w)
-}
-
-// Field `n`, a number.
-pub fn push_int(out: &mut [u8], at: usize, n: u64, v: u64) -> usize
-    requires { ⌜ (n < 2 ^ 29) × (15 ≤ at) × (at ≤ length (now out)) ⌝ }
-    ensures { λ r. ⌜ Pushed r at (intField n v) (now (out .entry)) (now (out .exit)) × (at ≤ r + 15) ⌝ }
-{
-    let a = push_varint(out, at, v);
-    push_tag(out, a, n, 0)
-}
-
-// What stands before the `len` bytes of field `n`.
-pub fn push_head(out: &mut [u8], at: usize, n: u64, len: usize) -> usize
-    requires { ⌜ (n < 2 ^ 29) × (15 ≤ at) × (at ≤ length (now out)) ⌝ }
-    ensures { λ r. ⌜ Pushed r at (head n len) (now (out .entry)) (now (out .exit)) × (at ≤ r + 15) ⌝ }
-{
-    let a = push_varint(out, at, len as u64);
-    push_tag(out, a, n, 2)
-}
-
-// Field `n`, bytes.
-pub fn push_raw(out: &mut [u8], at: usize, n: u64, src: &[u8]) -> usize
-    requires { ⌜ (n < 2 ^ 29) × (15 + length (now src) ≤ at) × (at ≤ length (now out)) ⌝ }
-    ensures { λ r. ⌜ Pushed r at (lenField n (now (src .entry))) (now (out .entry)) (now (out .exit)) × (at ≤ r + 15 + length (now (src .entry))) ⌝ }
-{
-    let a = push_bytes(out, at, src);
-    push_head(out, a, n, src.len())
-}
-
-// Field `n`, a number if there is one.
-pub fn push_maybe(out: &mut [u8], at: usize, n: u64, m: Maybe) -> usize
-    requires { ⌜ (n < 2 ^ 29) × (15 ≤ at) × (at ≤ length (now out)) ⌝ }
-    ensures { λ r. ⌜ Pushed r at (encode (intO n (maybe m) done)) (now (out .entry)) (now (out .exit)) × (at ≤ r + 15) ⌝ }
-{
-    match m {
-        Maybe::Nothing => at,
-        Maybe::Number(v) => push_int(out, at, n, v),
-    }
-}
-
-// Field `n`, a number if it is not 0.
-pub fn push_nonzero(out: &mut [u8], at: usize, n: u64, v: u64) -> usize
-    requires { ⌜ (n < 2 ^ 29) × (15 ≤ at) × (at ≤ length (now out)) ⌝ }
-    ensures { λ r. ⌜ Pushed r at (encode (intIf n v done)) (now (out .entry)) (now (out .exit)) × (at ≤ r + 15) ⌝ }
-{
-    if v == 0 {
-        return at;
-    }
-    push_int(out, at, n, v)
-}
-
-// Field `n`, bytes if there are any.
-pub fn push_nonempty(out: &mut [u8], at: usize, n: u64, src: &[u8]) -> usize
-    requires { ⌜ (n < 2 ^ 29) × (15 + length (now src) ≤ at) × (at ≤ length (now out)) ⌝ }
-    ensures { λ r. ⌜ Pushed r at (encode (rawIf n (now (src .entry)) done)) (now (out .entry)) (now (out .exit)) × (at ≤ r + 15 + length (now (src .entry))) ⌝ }
-{
-    if src.len() == 0 {
-        return at;
-    }
-    push_raw(out, at, n, src)
 }

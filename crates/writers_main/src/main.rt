@@ -2,14 +2,14 @@
 ghost use mathlib.Core.Path.{_≡_};
 ghost use Prim.Native.Nat.{_+_, _≤_};
 ghost use lib.ListN.{length};
+use field_writers::push_head;
+use field_writers::push_int;
+use field_writers::push_maybe;
+use field_writers::push_nonempty;
+use field_writers::push_nonzero;
+use field_writers::push_raw;
 use libc::STDOUT_FILENO;
 use writers::Maybe;
-use writers::push_head;
-use writers::push_int;
-use writers::push_maybe;
-use writers::push_nonempty;
-use writers::push_nonzero;
-use writers::push_raw;
 
 fn wide(b: u8) -> u64 {
     b as u64

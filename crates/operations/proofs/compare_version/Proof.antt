@@ -1,7 +1,7 @@
 use mathlib.Core.Bool.{true, false}
 use Prim.Native.Nat.{ℕ, _+_, _-_}
 use lib.ListN.{take, drop}
-use Rattle.access.specs.Permission.{sameBytes}
+use Rattle.access.specs.Table.{sameBytes}
 use Rattle.store.specs.Entries.{partOf}
 use mathlib.Core.Path.{_≡_, sym, ap, _∙_, subst}
 use denote.Ref.{now}

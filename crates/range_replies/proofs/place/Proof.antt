@@ -1,5 +1,5 @@
 use mathlib.Core.Path.{sym, ap}
-use Rattle.range_replies.specs.Keys.{onward}
+use Rattle.ranges.specs.Keys.{onward}
 use borrow.Author.Needs.{needs}
 use Rattle.range_replies.proofs.place.Statement.{statement}
 use Rattle.range_replies.proofs.place.Tie as tie

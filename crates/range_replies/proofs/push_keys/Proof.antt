@@ -8,7 +8,7 @@ use Rattle.encoding.specs.Encode.{lenField, encode, each}
 use Rattle.writers.specs.Pushed.{Pushed}
 use Rattle.writers.specs.PushedLaws.{again}
 use Rattle.store.specs.Store.{entriesOf}
-use Rattle.range_replies.specs.Keys.{keyAt, keysFrom}
+use Rattle.ranges.specs.Keys.{keyAt, keysFrom}
 use Rattle.range_replies.specs.KeysLaws.{keys-none, keys-more, keys-all}
 use Rattle.range_replies.proofs.push_keys.Statement.{statement}
 use Rattle.range_replies.proofs.push_keys.Tie as tie

@@ -1,7 +1,7 @@
 use native.Mathlib.Omega.{arith}
 use denote.Ref.{now}
 use Rattle.store.specs.Store.{entriesOf}
-use Rattle.range_replies.specs.Keys.{keysFrom}
+use Rattle.ranges.specs.Keys.{keysFrom}
 use Rattle.range_replies.specs.KeysLaws.{range-law}
 use borrow.Author.Needs.{needs}
 use Rattle.range_replies.proofs.push_range.Statement.{statement}

@@ -5,8 +5,8 @@ use Rattle.writers.specs.Pushed.{maybe}
 use Rattle.writers.specs.PushedLaws.{starts-again}
 use Rattle.protocol.specs.Judge.{range}
 use Rattle.protocol.specs.Reply.{commandTree, signedReply}
-use Rattle.range_replies.specs.Range.{rangeWith}
-use Rattle.range_replies.specs.RangeLaws.{places-run, places-keys}
+use Rattle.ranges.specs.Range.{rangeWith}
+use Rattle.ranges.specs.RangeLaws.{places-run, places-keys}
 use borrow.Author.Needs.{needs}
 use Rattle.range_replies.proofs.put_key_range.Statement.{statement}
 use Rattle.range_replies.proofs.put_key_range.Tie as tie

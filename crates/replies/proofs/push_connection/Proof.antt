@@ -1,5 +1,5 @@
 use native.Mathlib.Omega.{arith}
-use Rattle.replies.specs.Parts.{connection-law}
+use Rattle.reply_parts.specs.Parts.{connection-law}
 use borrow.Author.Needs.{needs}
 use Rattle.replies.proofs.push_connection.Statement.{statement}
 use Rattle.replies.proofs.push_connection.Tie as tie

@@ -1,5 +1,5 @@
 use borrow.Author.Tests.{le-leb, lt-leb}
-use Rattle.signature.specs.Sha1.{sha1}
+use Rattle.sha1.specs.Sha1.{sha1}
 use Rattle.signature.specs.Hmac.{hmacWords, hmac, hmacAnswer}
 use borrow.Author.Needs.{needs}
 use Rattle.signature.proofs.hmac.Statement.{statement}

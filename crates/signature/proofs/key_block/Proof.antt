@@ -6,7 +6,8 @@ use mathlib.Core.List.{map}
 use lib.Bits.{bitXor}
 use lib.ListN.{length, replicate, length-set, length-map, length-replicate}
 use lib.Seq.{paste, paste-zero}
-use Rattle.signature.specs.StepsLaws.{front-more, masked-made, map-at}
+use Rattle.sha1.specs.StepsLaws.{front-more}
+use Rattle.signature.specs.StepsLaws.{masked-made, map-at}
 use borrow.Author.Needs.{needs}
 use Rattle.signature.proofs.key_block.Statement.{statement}
 use Rattle.signature.proofs.key_block.Tie as tie

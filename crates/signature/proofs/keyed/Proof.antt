@@ -1,90 +1,56 @@
-use denote.Ref.{now}
-use Rattle.signature.specs.HmacLaws.{keyed-parts}
+use Rattle.sha1.specs.Sha1.{sha1}
+use Rattle.signature.specs.Hmac.{keyedWords}
 use borrow.Author.Needs.{needs}
 use Rattle.signature.proofs.keyed.Statement.{statement}
 use Rattle.signature.proofs.keyed.Tie as tie
 
--- src/lib.rt:298:13
 key-block-requires : tie.Need-key-block-requires
 key-block-requires c κs = search needs
 
--- src/lib.rt:299:33
-start-requires : tie.Need-start-requires
-start-requires c κs = search needs
+slice-aggregate-hash-after : tie.Need-slice-aggregate-hash-after
+slice-aggregate-hash-after c = search needs
 
--- src/lib.rt:299:42
-slice-aggregate-compress : tie.Need-slice-aggregate-compress
-slice-aggregate-compress c = search needs
+hash-after-requires : tie.Need-hash-after-requires
+hash-after-requires c κs = search needs
 
--- src/lib.rt:299:24
-compress-requires : tie.Need-compress-requires
-compress-requires c κs = search needs
-
--- src/lib.rt:299:9
-finish-requires : tie.Need-finish-requires
-finish-requires c κs = search needs
-
--- src/lib.rt:300:13
 bytes-requires : tie.Need-bytes-requires
 bytes-requires c κs = search needs
 
--- src/lib.rt:301:13
 key-block-requires-2 : tie.Need-key-block-requires-2
 key-block-requires-2 c κs = search needs
 
--- src/lib.rt:302:21
-start-requires-2 : tie.Need-start-requires-2
-start-requires-2 c κs = search needs
+slice-aggregate-hash-after-2 : tie.Need-slice-aggregate-hash-after-2
+slice-aggregate-hash-after-2 c = search needs
 
--- src/lib.rt:302:30
-slice-aggregate-compress-2 : tie.Need-slice-aggregate-compress-2
-slice-aggregate-compress-2 c = search needs
+slice-aggregate-hash-after-3 : tie.Need-slice-aggregate-hash-after-3
+slice-aggregate-hash-after-3 c = search needs
 
--- src/lib.rt:302:12
-compress-requires-2 : tie.Need-compress-requires-2
-compress-requires-2 c κs = search needs
+hash-after-requires-2 : tie.Need-hash-after-requires-2
+hash-after-requires-2 c κs = search needs
 
--- src/lib.rt:302:39
-slice-aggregate-finish : tie.Need-slice-aggregate-finish
-slice-aggregate-finish c = search needs
-
--- src/lib.rt:302:5
-finish-requires-2 : tie.Need-finish-requires-2
-finish-requires-2 c κs = search needs
-
--- src/lib.rt:294:1
 returns : tie.Need-returns
+unfolding keyedWords sha1
 returns c =
-    let s = c .before .before .before .before .before .before .before .before .before .before .before .before .before .before in
-    let o = c .before .before in
-    let i = o .before .before .before .before .before .before in
+    let k = c .before .before .before in
+    let h = k .before .before in
     simp (
-      c .finish2 .ensures,
-      o .compress2 .ensures,
-      o .before .before .start2 .ensures,
-      o .before .before .before .key-block2 .ensures,
-      o .before .before .before .before .bytes .ensures,
-      o .before .before .before .before .before .finish .ensures,
-      i .compress .ensures,
-      i .before .before .start .ensures,
-      i .before .before .before .key-block .ensures,
+      c .hash-after2 .ensures,
+      k .key-block2 .ensures,
+      k .before .bytes .ensures,
+      h .hash-after .ensures,
+      h .before .before .key-block .ensures,
     )
-    (keyed-parts (now (s .args .key)) (now (s .args .text)) (s .pre .0))
 
 pub keyed-spec : {M : Type 1} → statement M
 keyed-spec =
     tie.close
     (tie.spec
     key-block-requires
-    start-requires
-    slice-aggregate-compress
-    compress-requires
-    finish-requires
+    slice-aggregate-hash-after
+    hash-after-requires
     bytes-requires
     key-block-requires-2
-    start-requires-2
-    slice-aggregate-compress-2
-    compress-requires-2
-    slice-aggregate-finish
-    finish-requires-2
+    slice-aggregate-hash-after-2
+    slice-aggregate-hash-after-3
+    hash-after-requires-2
     returns)

@@ -1,6 +1,6 @@
 use mathlib.Core.Path.{refl, sym, ap, _∙_}
-use Rattle.signature.specs.declared.Digest.the-variants.{Made, TooLong}
-use Rattle.signature.specs.Sha1.{digestAnswer}
+use Rattle.sha1.specs.declared.Digest.the-variants.{Made, TooLong}
+use Rattle.sha1.specs.Sha1.{digestAnswer}
 use Rattle.signature_export.proofs.Laws.{written}
 use borrow.Author.Needs.{needs}
 use Rattle.signature_export.proofs.signature_sha1.Statement.{statement}

@@ -1,0 +1,4 @@
+pub mod Keys
+pub mod KeysLaws
+pub mod Range
+pub mod RangeLaws
