@@ -4,6 +4,7 @@
 test:
 	tests/expected
 	rt fmt --check
+	examples/run.sh
 	rt ci
 
 # What there is to run: a day at a site, and the outside vectors, with a line for each saying what was compared.

@@ -1,0 +1,92 @@
+-- The ways through each call.
+use mathlib.Core.Path.{_≡_, refl, sym, ap, subst, _∙_}
+use mathlib.Core.List.{List, [], _∷_}
+use Prim.Native.Nat.{ℕ, _+_, _≤_, _<_}
+use native.Mathlib.Omega.{arith}
+use lib.ListN.{length}
+use Rattle.local.specs.Local as local
+use Rattle.local.specs.Local.{localOf, means, Inside, LocalIs}
+use Rattle.local.specs.declared.Local.{Local}
+use Rattle.local.specs.declared.Local.the-variants.{Value}
+use Rattle.protocol.specs.State as state
+use Rattle.protocol.specs.State.{State, lent}
+use Rattle.protocol.specs.Format.{Told}
+use Rattle.protocol.specs.Answer.{Outcome, refused, answered}
+use Rattle.protocol.specs.Box.{answers}
+use Rattle.connections.specs.Means.{connectionOf}
+use Rattle.connection_bytes.specs.Layout.{connectionAt, becomes}
+use Rattle.connection_bytes.specs.Follows.{Leaves, answers-leave}
+use Rattle.device.specs.declared.Formatted.{Formatted}
+use Rattle.device.specs.declared.Response.{Response}
+use Rattle.device.specs.declared.Response.the-variants.{OutShort, StoreBad, DeviceBad, Closed, More, Answered}
+use Rattle.device.specs.Means.{formatNumber, Called, refusing, answering, called, afterwards}
+use Rattle.abi.specs.Calls.{Left, left, leaves, answerCall, findNumber, partLeft, Find}
+use Rattle.abi.specs.Notes.{Noted, notes}
+
+-- ---- format
+pub formatted : {store device key store' device' : List ℕ} {r : Formatted} (x : Formatted) → r ≡ x
+    → Told (formatNumber r) store device key store' device' → Told (formatNumber x) store device key store' device'
+formatted {store} {device} {key} {store'} {device'} x e t = subst (λ (y : Formatted). Told (formatNumber y) store device key store' device') e t
+
+-- ---- answer
+module _ (store device connection input out counts : List ℕ) {c : state.Connection} (held : c ≡ connectionAt connection) where
+  abbrev outcome : Outcome State
+  outcome = answers (lent store device c) (length out) input
+
+  as-called : leaves store device connection out counts outcome ≡ answerCall store device connection input out counts
+  unfolding answerCall
+  as-called = ap (λ d. leaves store device connection out counts (answers (lent store device d) (length out) input)) held
+
+  module _ (store' device' out' : List ℕ) where
+    abbrev Same : Called → Type 0
+    Same k = k ≡ afterwards (lent store device c) out outcome
+
+    refusal : (n : ℕ) → 0 < n → Same (refusing n (lent store' device' c) out') → left n store' device' connection out' counts ≡ leaves store device connection out counts outcome
+    refusal n some = go outcome
+      where
+        go : (o : Outcome State) → refusing n (lent store' device' c) out' ≡ afterwards (lent store device c) out o
+            → left n store' device' connection out' counts ≡ leaves store device connection out counts o
+        go (refused m) p = λ i. left (p i .refusal) (p i .state .store) (p i .state .device) connection (p i .out) counts
+        go (answered bytes s taken) p = let z : n ≡ 0 = ap (λ (k : Called). k .refusal) p in absurd (omega arith)
+
+    reply : (written taken : ℕ) (d : state.Connection) → Same (answering written taken (lent store' device' d) out')
+        → left 0 store' device' (becomes connection d) out' (taken ∷ written ∷ []) ≡ leaves store device connection out counts outcome
+    reply written taken d = go outcome (answers-leave (lent store device c) (length out) input)
+      where
+        go : (o : Outcome State) → Leaves (lent store device c) o → answering written taken (lent store' device' d) out' ≡ afterwards (lent store device c) out o
+            → left 0 store' device' (becomes connection d) out' (taken ∷ written ∷ []) ≡ leaves store device connection out counts o
+        go (refused m) h p = let z : 0 ≡ m = ap (λ (k : Called). k .refusal) p in absurd (omega arith)
+        go (answered bytes s n) h p =
+            λ i. left 0 (p i .state .store) (p i .state .device) (becomes connection (p i .state .connection)) (p i .out) (p i .taken ∷ p i .written ∷ [])
+
+    abbrev whole : Noted → Left
+    whole n = left (n .number) store' device' (n .connection) out' (n .counts)
+
+    by-case : (r : Response) → Same (called c r store' device' out') → whole (notes connection counts r) ≡ leaves store device connection out counts outcome
+    by-case OutShort = refusal 1 (omega arith)
+    by-case StoreBad = refusal 2 (omega arith)
+    by-case DeviceBad = refusal 3 (omega arith)
+    by-case Closed = refusal 4 (omega arith)
+    by-case More = refusal 5 (omega arith)
+    by-case (Answered written taken d) = reply written taken (connectionOf d)
+
+    pub answering-call : {n : Noted} (r : Response) → Same (called c r store' device' out') → n ≡ notes connection counts r
+        → whole n ≡ answerCall store device connection input out counts
+    answering-call r told e = ap whole e ∙ by-case r told ∙ as-called
+
+-- ---- find, as the code's answer says
+module _ (store key before : List ℕ) {r : Local} (is : LocalIs store key r) where
+  said : {o : local.Outcome} (x : Local) → r ≡ x → means store x ≡ o → localOf store key ≡ o
+  said x e m = sym (is .same) ∙ ap (means store) e ∙ m
+
+  pub find-none : (x : Local) (o : local.Outcome) → r ≡ x → means store x ≡ o → partLeft store before before o → Find store key before (findNumber o) before
+  find-none x o e m p = let q = sym (said x e m) in record { number = ap findNumber q; part = subst (λ (y : local.Outcome). partLeft store before before y) q p }
+
+  pub find-value : (start len : ℕ) → r ≡ Value start len → Find store key before 0 (start ∷ len ∷ [])
+  find-value start len e =
+      let q = sym (said (Value start len) e refl) in
+      let i : start + len ≤ length store = subst (λ (y : Local). Inside store y) e (is .inside) in
+      record {
+        number = ap findNumber q;
+        part = subst (λ (y : local.Outcome). partLeft store before (start ∷ len ∷ []) y) q (record { two = refl; inside = i; same = refl });
+      }

@@ -1,0 +1,33 @@
+-- The next call starts from the state that this one left.
+use mathlib.Core.Path.{_≡_, refl, ap}
+use mathlib.Core.List.{List}
+use Prim.Native.Nat.{ℕ}
+use lib.ListN.{length}
+use Rattle.protocol.specs.State.{State, lent}
+use Rattle.protocol.specs.Answer.{Outcome, refused, answered}
+use Rattle.protocol.specs.Box.{answers}
+use Rattle.connection_bytes.specs.Layout.{connectionAt}
+use Rattle.connection_bytes.specs.Follows.{Leaves, answers-leave}
+use Rattle.connection_bytes.specs.Laws.{becomes-back}
+use Rattle.abi.specs.Calls.{leaves, answerCall}
+
+-- the state that lent bytes hold
+abbrev pub lentState : List ℕ → List ℕ → List ℕ → State
+lentState store device connection = lent store device (connectionAt connection)
+
+-- the state after an outcome
+abbrev pub stateAfter : State → Outcome State → State
+stateAfter s (refused n) = s
+stateAfter s (answered bytes t taken) = t
+
+pub next-from : (store device connection input out counts : List ℕ) → length connection ≡ 32
+    → (let r = answerCall store device connection input out counts in lentState (r .store) (r .device) (r .connection))
+    ≡ stateAfter (lentState store device connection) (answers (lentState store device connection) (length out) input)
+unfolding answerCall
+next-from store device connection input out counts long =
+    go (answers (lentState store device connection) (length out) input) (answers-leave (lentState store device connection) (length out) input)
+  where
+    go : (o : Outcome State) → Leaves (lentState store device connection) o
+        → (let r = leaves store device connection out counts o in lentState (r .store) (r .device) (r .connection)) ≡ stateAfter (lentState store device connection) o
+    go (refused n) h = refl
+    go (answered bytes s taken) h = ap (lent (s .store) (s .device)) (becomes-back connection (s .connection) long h)

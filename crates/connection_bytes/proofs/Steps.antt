@@ -1,0 +1,72 @@
+-- Runs of stores, and the ways through each function.
+use mathlib.Core.Path.{_≡_, sym, ap, ap₂, _∙_}
+use mathlib.Core.Bool.{Bool, true, false, not}
+use mathlib.Core.List.{List}
+use Prim.Native.Nat.{ℕ, suc, _+_, _/_, _%_}
+use native.Mathlib.Omega.{arith}
+use lib.Dec.{eqb}
+use lib.ListN.{getD, set, replicate}
+use lib.Seq.{sets}
+use borrow.Author.Tests.{eq-eqb, ne-eqb}
+use Rattle.wire.specs.Reader.{choose}
+use Rattle.tree.specs.Tree.{guard}
+use Rattle.access.specs.Record.{wordAt, halfBytes, wordBytes, flag}
+use Rattle.protocol.specs.State.{Connection}
+use Rattle.connection_bytes.specs.Layout.{yes, connectionAt, connectedBytes, isLast, heardBytes, hears, closes, becomes}
+
+pub half-stored : (l : List ℕ) (a h : ℕ)
+    → set (set (set (set l a (h / 16777216)) (a + 1) (h / 65536 % 256)) (a + 2) (h / 256 % 256)) (a + 3) (h % 256) ≡ sets l a (halfBytes h)
+unfolding halfBytes
+half-stored l a h =
+    let e1 : a + 1 ≡ suc a = omega arith in
+    let e2 : a + 2 ≡ suc (suc a) = omega arith in
+    let e3 : a + 3 ≡ suc (suc (suc a)) = omega arith in
+    rw (e1, e2, e3)
+
+pub word-stored : (l : List ℕ) {m n : List ℕ} (a w : ℕ) → m ≡ sets l a (halfBytes (w / 4294967296)) → n ≡ sets m (a + 4) (halfBytes (w % 4294967296))
+    → n ≡ sets l a (wordBytes w)
+unfolding wordBytes halfBytes
+word-stored l a w p q =
+    let e : a + 4 ≡ suc (suc (suc (suc a))) = omega arith in
+    q ∙ ap₂ (λ (k : List ℕ) (b : ℕ). sets k b (halfBytes (w % 4294967296))) p e
+
+pub new-stored : {l : List ℕ} {f : ℕ} (n : ℕ) (p : Bool) → l ≡ sets (replicate 32 0) 0 (wordBytes n) → f ≡ flag p → set l 8 f ≡ connectedBytes n p
+unfolding connectedBytes wordBytes halfBytes
+new-stored n p e g = ap₂ (λ (k : List ℕ) (x : ℕ). set k 8 x) e g
+
+module _ (l : List ℕ) where
+  pub held : {n q : ℕ} → n ≡ wordAt l 0 → q ≡ wordAt l 16
+      → record { number = n; protected = yes l 8; closed = yes l 9; last = guard (yes l 10) q } ≡ connectionAt l
+  held e f = λ i. record { number = e i; protected = yes l 8; closed = yes l 9; last = guard (yes l 10) (f i) }
+
+  -- the last sequence
+  pub unseen : (q : ℕ) → getD l 10 0 ≡ 0 → false ≡ isLast (connectionAt l .last) q
+  unseen q z = sym (ap (λ (b : Bool). isLast (guard (not b) (wordAt l 16)) q) (eq-eqb (getD l 10 0) 0 z))
+
+  pub seen : {w : ℕ} (q : ℕ) → (getD l 10 0 ≡ 0 → ⊥) → w ≡ wordAt l 16 → eqb w q ≡ isLast (connectionAt l .last) q
+  seen q z e = ap (λ (w : ℕ). eqb w q) e ∙ sym (ap (λ (b : Bool). isLast (guard (not b) (wordAt l 16)) q) (ne-eqb (getD l 10 0) 0 z))
+
+  module _ (s : Bool) (q : ℕ) where
+    pub none-heard : s ≡ false → l ≡ hears l (guard s q)
+    none-heard e = sym (ap (λ (b : Bool). hears l (guard b q)) e)
+
+    pub heard-before : s ≡ true → isLast (connectionAt l .last) q ≡ true → l ≡ hears l (guard s q)
+    heard-before e f = sym (ap (λ (b : Bool). hears l (guard b q)) e ∙ ap (λ (b : Bool). choose b l (heardBytes l q)) f)
+
+    pub heard-now : {m : List ℕ} → s ≡ true → isLast (connectionAt l .last) q ≡ false → m ≡ heardBytes l q → m ≡ hears l (guard s q)
+    heard-now e f g = g ∙ sym (ap (λ (b : Bool). hears l (guard b q)) e ∙ ap (λ (b : Bool). choose b l (heardBytes l q)) f)
+
+  -- closing
+  module _ (s : Bool) where
+    pub stays-open : s ≡ false → l ≡ closes l s
+    stays-open e = sym (ap (closes l) e)
+
+    pub closed-before : s ≡ true → (getD l 9 0 ≡ 0 → ⊥) → l ≡ closes l s
+    closed-before e n = sym (ap (closes l) e ∙ ap (λ (b : Bool). choose (not b) l (set l 9 1)) (ne-eqb (getD l 9 0) 0 n))
+
+    pub closed-now : s ≡ true → getD l 9 0 ≡ 0 → set l 9 1 ≡ closes l s
+    closed-now e z = sym (ap (closes l) e ∙ ap (λ (b : Bool). choose (not b) l (set l 9 1)) (eq-eqb (getD l 9 0) 0 z))
+
+  pub both-written : {m n : List ℕ} (c : Connection) → m ≡ hears l (c .last) → n ≡ closes m (c .closed) → n ≡ becomes l c
+  unfolding becomes
+  both-written c p q = q ∙ ap (λ (k : List ℕ). closes k (c .closed)) p

@@ -1,0 +1,17 @@
+use Rattle.connection_bytes.specs.Layout.{heardBytes}
+use borrow.Author.Needs.{needs}
+use Rattle.connection_bytes.proofs.accept.Statement.{statement}
+use Rattle.connection_bytes.proofs.accept.Tie as tie
+
+element-write-bytes : tie.Need-element-write-bytes
+element-write-bytes c = search needs
+
+put-word-requires : tie.Need-put-word-requires
+put-word-requires c κs = search needs
+
+returns : tie.Need-returns
+unfolding heardBytes
+returns c = c .put-word .ensures
+
+pub accept-spec : {M : Type 1} → statement M
+accept-spec = tie.close (tie.spec element-write-bytes put-word-requires returns)

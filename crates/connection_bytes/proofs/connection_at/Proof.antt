@@ -1,0 +1,36 @@
+use denote.Ref.{now}
+use Rattle.connection_bytes.proofs.Steps.{held}
+use borrow.Author.Needs.{needs}
+use Rattle.connection_bytes.proofs.connection_at.Statement.{statement}
+use Rattle.connection_bytes.proofs.connection_at.Tie as tie
+
+word-at-requires : tie.Need-word-at-requires
+word-at-requires c κs = search needs
+
+element-copy-out-t5 : tie.Need-element-copy-out-t5
+element-copy-out-t5 c = search needs
+
+element-copy-out-t9 : tie.Need-element-copy-out-t9
+element-copy-out-t9 c = search needs
+
+element-copy-out-t13 : tie.Need-element-copy-out-t13
+element-copy-out-t13 c = search needs
+
+word-at-requires-2 : tie.Need-word-at-requires-2
+word-at-requires-2 c κs = search needs
+
+returns : tie.Need-returns
+returns c =
+    let l = now (c .before .before .before .before .before .args .bytes) in
+    held l (c .before .before .before .before .word-at .ensures) (c .word-at2 .ensures)
+
+pub connection-at-spec : {M : Type 1} → statement M
+connection-at-spec =
+    tie.close
+    (tie.spec
+    word-at-requires
+    element-copy-out-t5
+    element-copy-out-t9
+    element-copy-out-t13
+    word-at-requires-2
+    returns)

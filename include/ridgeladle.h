@@ -1,0 +1,90 @@
+/* Ridgeladle: a proved Kinetic 3.1.0 storage box, as calls over lent bytes.
+
+   The box keeps nothing between calls: the host lends the store, the device record and the connection to each call. A call always
+   returns, takes no memory from the heap and calls nothing outside but memcpy and memset. What each call answers, and every lent
+   byte after it, is proved for every input; the contracts stand in crates/abi/src/lib.rt.
+
+   The host guarantees only this:
+   - each pointer has at least the bytes that are stated of it. NULL is fine where a length is passed beside it and is 0;
+   - counts and part are aligned as uint64_t is;
+   - no two ranges lent to one call overlap, input and out in particular;
+   - no other thread uses a lent range while the call runs.
+   All else is judged by the call: any bytes may be lent.
+
+   Link target/staticlib/libabi.a ('rt staticlib abi'), for x86-64 Linux. */
+#ifndef RIDGELADLE_H
+#define RIDGELADLE_H
+
+#include <stddef.h>
+#include <stdint.h>
+
+#ifdef __cplusplus
+extern "C" {
+#endif
+
+enum {
+    RIDGELADLE_BLOCK = 512,      /* a store is 1 to 128 blocks */
+    RIDGELADLE_RECORD = 2960,    /* bytes of a device record */
+    RIDGELADLE_CONNECTION = 32,  /* bytes of a connection */
+    RIDGELADLE_REPLY = 4096,     /* the least length of a reply buffer; no reply is longer */
+    RIDGELADLE_DIGEST = 20
+};
+
+/* Refusals, in the order in which they are judged. A refusal writes no lent byte at all. */
+enum {
+    RIDGELADLE_OUT_SHORT = 1,  /* reply buffer under 4,096 bytes */
+    RIDGELADLE_STORE_BAD = 2,  /* store not 1 to 128 blocks of 512, or a block rule broken */
+    RIDGELADLE_DEVICE_BAD = 3, /* device record breaks an ACL rule */
+    RIDGELADLE_CLOSED = 4,     /* this connection was closed */
+    RIDGELADLE_MORE = 5,       /* the input, possibly empty, is a proper start of a frame: call again with more behind it */
+    RIDGELADLE_KEY_BAD = 6     /* format only: key not 1 to 64 bytes */
+};
+
+/* Numbers in lent bytes are big-endian, identities, connection numbers and sequences 64-bit two's complement.
+
+   Store: blocks of 512 bytes, used ones first, their keys ascending; document 01, "Blocks". A blank block is 512 zero bytes.
+
+   Device record: 0-7 cluster version, 8 number of ACLs, 9-15 not used, then eight ACL places of 368 bytes.
+   ACL place: 0-7 identity, 8 key length, 9 number of scopes, 10-15 not used, 16-79 key, then four scope places of 72 bytes.
+   Scope place: 0 offset, 1 value length, 2-3 permission mask (bit p for permission p), 4 TlsRequired (not zero: yes), 5-7 not used,
+   8-71 value. What is not used is not looked at; it is written as zero, but SETUP writes bytes 0-7 alone.
+
+   Connection: 0-7 number, 8 protected, 9 closed, 10 seen: a sequence was accepted (each: not zero is yes), 11-15 not used,
+   16-23 last accepted sequence, 24-31 not used. What is not used is not looked at. */
+
+/* Makes the device record and a store of blank blocks: identity 1 has the key and every permission, the cluster version is 0.
+   store_len is the store's length, key_len the key's. Old contents do not matter.
+   0 made, and every byte of store and record is written; or STORE_BAD, for the store's length alone, else KEY_BAD. */
+uint32_t ridgeladle_format(uint8_t *store, size_t store_len, uint8_t *record, const uint8_t *key, size_t key_len);
+
+/* A new connection: its number, protected or not (not zero: yes), on which no sequence was seen yet. All 32 bytes are written, protected
+   as 0 or 1, what is not used as zero. */
+void ridgeladle_connect(uint8_t *connection, int64_t number, uint8_t protected_);
+
+/* Answers the input on a connection.
+   0 answered: the reply stands in the first counts[1] bytes of out, and the rest of out is as it was; the first counts[0] bytes of the
+   input are taken: pass what follows them with the next call. Of store and record what the request changes is written. Of the connection
+   only what changes is written: byte 9 becomes 1 on closing; byte 10 becomes 1 and 16-23 the sequence when one is accepted; no other
+   byte of it ever changes. A closing reply is answered with 0 too: send it, then close.
+   Else refusal 1 to 5. */
+uint32_t ridgeladle_answer(uint8_t *store, size_t store_len, uint8_t *record, uint8_t *connection, const uint8_t *input, size_t input_len,
+                           uint8_t *out, size_t out_len, uint64_t *counts /* [2]: taken, written */);
+
+/* Local read, for the box's own display: where the value under a key lies.
+   0 found: part[0] is the value's offset in the store, part[1] its length. Or 1 not found, also for a key that is not 1 to 64 bytes.
+   Or 2, STORE_BAD, judged first. part is written only where found. */
+uint32_t ridgeladle_find(const uint8_t *store, size_t store_len, const uint8_t *key, size_t key_len,
+                         uint64_t *part /* [2]: offset, length */);
+
+/* SHA-1 (FIPS 180-4). 0 and the 20 bytes of the digest; or 1 for a text of 2^60 bytes or more, and nothing is written. */
+uint32_t ridgeladle_sha1(const uint8_t *text, size_t text_len, uint8_t *digest);
+
+/* HMAC-SHA1 (RFC 2104). 0 and the 20 bytes of the digest; or 1 for a key over 128 bytes, else 2 for a text over 1,048,576 bytes, and
+   nothing is written. */
+uint32_t ridgeladle_hmac(const uint8_t *key, size_t key_len, const uint8_t *text, size_t text_len, uint8_t *digest);
+
+#ifdef __cplusplus
+}
+#endif
+
+#endif
