@@ -48,7 +48,7 @@ static void finish(uint32_t h[5], uint64_t taken, const uint8_t *text, size_t n,
     uint64_t bits = 8 * (taken + n);
     for (; n >= 64; n -= 64, text += 64) compress(h, text);
     uint8_t last[128] = {0};
-    memcpy(last, text, n);
+    if (n) memcpy(last, text, n);
     last[n] = 0x80;
     size_t end = n < 56 ? 64 : 128;
     for (int i = 0; i < 8; i++) last[end - 1 - i] = (uint8_t)(bits >> (8 * i));
@@ -57,17 +57,21 @@ static void finish(uint32_t h[5], uint64_t taken, const uint8_t *text, size_t n,
     for (int i = 0; i < 20; i++) out[i] = (uint8_t)(h[i / 4] >> (24 - 8 * (i % 4)));
 }
 
-void plain_sha1(const uint8_t *text, size_t n, uint8_t out[20]) {
+uint32_t plain_sha1(const uint8_t *text, size_t n, uint8_t *out) {
     uint32_t h[5];
+    if ((uint64_t)n >> 60) return 1;
     start(h);
     finish(h, 0, text, n, out);
+    return 0;
 }
 
-void plain_hmac(const uint8_t *key, size_t key_len, const uint8_t *text, size_t n, uint8_t out[20]) {
+uint32_t plain_hmac(const uint8_t *key, size_t key_len, const uint8_t *text, size_t n, uint8_t *out) {
     uint8_t pad[64] = {0}, digest[20];
     uint32_t h[5];
+    if (key_len > 128) return 1;
+    if (n > 1048576) return 2;
     if (key_len > 64) plain_sha1(key, key_len, pad);
-    else memcpy(pad, key, key_len);
+    else if (key_len) memcpy(pad, key, key_len);
     for (int i = 0; i < 64; i++) pad[i] ^= 0x36;
     start(h);
     compress(h, pad);
@@ -76,4 +80,5 @@ void plain_hmac(const uint8_t *key, size_t key_len, const uint8_t *text, size_t 
     start(h);
     compress(h, pad);
     finish(h, 64, digest, 20, out);
+    return 0;
 }

@@ -1,5 +1,12 @@
+#ifndef PLAIN_SHA1_H
+#define PLAIN_SHA1_H
 #include <stddef.h>
 #include <stdint.h>
 
-void plain_sha1(const uint8_t *text, size_t n, uint8_t out[20]);
-void plain_hmac(const uint8_t *key, size_t key_len, const uint8_t *text, size_t n, uint8_t out[20]);
+/* 0, or 1 for a text of 2^60 bytes or more. */
+uint32_t plain_sha1(const uint8_t *text, size_t text_len, uint8_t *digest);
+
+/* 0, or 1 for a key over 128 bytes, else 2 for a text over 1,048,576. */
+uint32_t plain_hmac(const uint8_t *key, size_t key_len, const uint8_t *text, size_t text_len, uint8_t *digest);
+
+#endif

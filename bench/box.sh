@@ -1,0 +1,16 @@
+#!/bin/sh
+# Measures the whole answering call against the plain C box (clang -O3) and OpenSSL's HMAC, in one run.
+# PLAIN_TWICE=1 puts the plain box on both sides, to try the program where crate abi is not proved.
+set -eu
+cd "$(dirname "$0")/.."
+mkdir -p target/bench
+rt staticlib fields_export >/dev/null
+if [ "${PLAIN_TWICE:-}" ]; then
+    side=-DPLAIN_TWICE
+else
+    rt staticlib abi >/dev/null
+    side=target/staticlib/libabi.a
+fi
+clang -O3 -std=gnu99 -Wall -Wextra -Wno-deprecated-declarations -o target/bench/box \
+    bench/box_bench.c bench/box.c bench/sha1.c $side target/staticlib/libfields_export.a -lcrypto
+exec target/bench/box

@@ -1,0 +1,198 @@
+/* The whole answering call: Ridgeladle against the plain C box, and OpenSSL's HMAC alone, in one run on a full store.
+
+   Each call starts from the same connection and leaves store and record as they were: the PUT writes what is there already. */
+#include "client.h"
+#include <openssl/evp.h>
+#include <openssl/hmac.h>
+#include <stdio.h>
+#include <time.h>
+
+#ifdef PLAIN_TWICE /* the plain box on both sides, to try this program */
+#define ridgeladle_answer plain_answer
+#define ridgeladle_hmac plain_hmac
+#else
+#include "../include/ridgeladle.h"
+#endif
+uint32_t fields_put(const uint8_t *command, size_t n, uint64_t held[16]);
+
+enum { ROUNDS = 400, REPEAT = 4, ENTRIES = 128, STORE = ENTRIES * 512, KEY = 20 };
+
+/* A call to measure. */
+typedef struct {
+    const char *name;
+    text input, told, replied; /* told, replied: the commands of input and reply, empty where none is signed */
+    uint32_t refusal;
+    int closed;
+} call;
+
+static uint8_t store[STORE], first_store[STORE], record[PLAIN_RECORD], first_record[PLAIN_RECORD];
+static uint8_t fresh[PLAIN_CONNECTION], connection[PLAIN_CONNECTION], key[KEY], out[PLAIN_ROOM], other[PLAIN_ROOM], digest[20];
+static uint8_t version[16], tag[32], value[384];
+static uint64_t counts[2], held[16];
+static volatile uint32_t sink;
+
+static void fail(const char *what, const char *name) {
+    printf("%s: %s\n", name, what);
+    exit(1);
+}
+
+/* ---- The messages */
+
+static size_t key_of(char *to, size_t room, int i) { return (size_t)snprintf(to, room, "timer07/%08d", i); }
+
+static void put_of(text *c, int i) {
+    text kv = {.n = 0}, body = {.n = 0};
+    char k[32];
+    bytes(&kv, 2, version, sizeof version);
+    bytes(&kv, 3, k, key_of(k, sizeof k, i));
+    bytes(&kv, 5, tag, sizeof tag);
+    number(&kv, 6, 1);
+    number(&kv, 8, 1);
+    bytes(&body, 1, kv.at, kv.n);
+    command(c, 1, 1, 4, body.at, body.n);
+}
+
+static void get_of(text *c, int i) {
+    text kv = {.n = 0}, body = {.n = 0};
+    char k[32];
+    bytes(&kv, 3, k, key_of(k, sizeof k, i));
+    bytes(&body, 1, kv.at, kv.n);
+    command(c, 1, 1, 2, body.at, body.n);
+}
+
+/* From key i, inclusive, up: 32 keys where there are as many. */
+static void range_of(text *c, int i) {
+    text range = {.n = 0}, body = {.n = 0};
+    char k[32];
+    bytes(&range, 1, k, key_of(k, sizeof k, i));
+    bytes(&range, 2, k, key_of(k, sizeof k, ENTRIES));
+    number(&range, 3, 1);
+    number(&range, 5, 32);
+    bytes(&body, 2, range.at, range.n);
+    command(c, 1, 1, 12, body.at, body.n);
+}
+
+static void framed(text *to, const text *c, int64_t auth_type, size_t value_len) {
+    text m;
+    message(&m, 1, key, KEY, auth_type, c->at, c->n);
+    frame(to, m.at, m.n, value, value_len);
+}
+
+/* ---- The state */
+
+static void fill(void) {
+    text c, f;
+    for (size_t i = 0; i < sizeof value; i++) value[i] = (uint8_t)(i * 7 + 1);
+    for (size_t i = 0; i < sizeof tag; i++) tag[i] = (uint8_t)(i + 1);
+    for (size_t i = 0; i < sizeof version; i++) version[i] = (uint8_t)(i + 9);
+    for (size_t i = 0; i < KEY; i++) key[i] = (uint8_t)(i + 1);
+    if (plain_format(store, STORE, record, key, KEY)) fail("refused", "format");
+    plain_connect(fresh, 1, 0);
+    for (int i = 0; i < ENTRIES; i++) {
+        put_of(&c, i);
+        framed(&f, &c, 1, sizeof value);
+        memcpy(connection, fresh, sizeof fresh);
+        if (plain_answer(store, STORE, record, connection, f.at, f.n, out, sizeof out, counts) || connection[9]) fail("not put", "an entry");
+    }
+    memcpy(first_store, store, STORE);
+    memcpy(first_record, record, sizeof record);
+}
+
+/* ---- Measuring */
+
+enum { WHOLE, CHECK, MAC, DECODING, OPENSSL, WHATS };
+
+static uint32_t answer(int plain, const call *m, int closed) {
+    memcpy(connection, fresh, sizeof fresh);
+    connection[9] = (uint8_t)closed;
+    return (plain ? plain_answer : ridgeladle_answer)(store, STORE, record, connection, m->input.at, m->input.n, out, sizeof out, counts);
+}
+
+static void mac(int plain, const text *t) { (plain ? plain_hmac : ridgeladle_hmac)(key, KEY, t->at, t->n, digest); }
+
+static void once(int what, int plain, const call *m) {
+    switch (what) {
+    case WHOLE: sink += answer(plain, m, m->closed); break;
+    case CHECK: sink += answer(plain, m, 1); break;
+    case MAC:
+        mac(plain, &m->told);
+        mac(plain, &m->replied);
+        break;
+    case DECODING: sink += plain ? (uint32_t)plain_decodes(m->told.at, m->told.n) : fields_put(m->told.at, m->told.n, held); break;
+    default:
+        HMAC(EVP_sha1(), key, KEY, m->told.at, m->told.n, digest, NULL);
+        HMAC(EVP_sha1(), key, KEY, m->replied.at, m->replied.n, digest, NULL);
+    }
+}
+
+static double now(void) {
+    struct timespec t;
+    clock_gettime(CLOCK_MONOTONIC, &t);
+    return (double)t.tv_sec * 1e9 + (double)t.tv_nsec;
+}
+
+/* The sides must answer alike and as expected, or the times mean nothing. */
+static void compare(call *m) {
+    if (answer(1, m, m->closed) != m->refusal) fail("the plain box answers otherwise", m->name);
+    uint64_t taken = counts[0], written = counts[1];
+    memcpy(other, out, sizeof out);
+    memset(out, 0, sizeof out);
+    if (answer(0, m, m->closed) != m->refusal) fail("Ridgeladle answers otherwise", m->name);
+    if (m->refusal) return;
+    if (counts[0] != taken || counts[1] != written || memcmp(out, other, written)) fail("the replies differ", m->name);
+    if (m->told.n) {
+        const uint8_t *p = out + 13 + out[12]; /* commandBytes, after authType and HMACauth */
+        if (connection[9] || p[0] != 0x3a) fail("the reply is not signed", m->name);
+        if (p[1] < 128) push(&m->replied, p + 2, p[1]);
+        else push(&m->replied, p + 3, (size_t)(p[1] & 127) | (size_t)p[2] << 7);
+    }
+}
+
+static void line(const char *side, const double *t, int is_signed) {
+    printf("    %-10s %7.0f ns   check %6.0f (%.0f%%)", side, t[WHOLE], t[CHECK], 100 * t[CHECK] / t[WHOLE]);
+    if (is_signed)
+        printf("   HMAC, both %5.0f (%.0f%%)   decoding %4.0f (%.0f%%)   rest %5.0f", t[MAC], 100 * t[MAC] / t[WHOLE], t[DECODING],
+               100 * t[DECODING] / t[WHOLE], t[WHOLE] - t[CHECK] - t[MAC] - t[DECODING]);
+    printf("\n");
+}
+
+/* Each in turn, many times over; the least time of each counts. */
+static void measure(call *m) {
+    double best[2][WHATS];
+    compare(m);
+    for (int i = 0; i < 2 * WHATS; i++) best[i / WHATS][i % WHATS] = 1e18;
+    for (int r = 0; r < ROUNDS; r++)
+        for (int what = 0; what < (m->told.n ? WHATS : MAC); what++)
+            for (int plain = 0; plain < 2; plain++) {
+                double from = now();
+                for (int i = 0; i < REPEAT; i++) once(what, plain, m);
+                double took = (now() - from) / REPEAT;
+                if (took < best[plain][what]) best[plain][what] = took;
+            }
+    if (memcmp(store, first_store, STORE) || memcmp(record, first_record, sizeof record)) fail("the state changed", m->name);
+    printf("%s: %.2f times the plain box's time", m->name, best[0][WHOLE] / best[1][WHOLE]);
+    if (m->told.n) printf("; OpenSSL's HMAC alone, both, %.0f ns", best[1][OPENSSL] < best[0][OPENSSL] ? best[1][OPENSSL] : best[0][OPENSSL]);
+    printf("\n");
+    line("Ridgeladle", best[0], m->told.n > 0);
+    line("plain C", best[1], m->told.n > 0);
+}
+
+int main(void) {
+    static call put = {.name = "signed PUT over an entry, value of 384"}, get = {.name = "signed GET, value of 384"},
+                range = {.name = "signed GETKEYRANGE of 32 keys"}, more = {.name = "refused: MORE, a byte is missing", .refusal = 5},
+                closed = {.name = "refused: CLOSED", .refusal = 4, .closed = 1}, unsigned_ = {.name = "unsigned: closing reply"};
+    fill();
+    put_of(&put.told, 64);
+    get_of(&get.told, 64);
+    range_of(&range.told, 64);
+    framed(&put.input, &put.told, 1, sizeof value);
+    framed(&get.input, &get.told, 1, 0);
+    framed(&range.input, &range.told, 1, 0);
+    framed(&more.input, &put.told, 1, sizeof value);
+    more.input.n--;
+    framed(&closed.input, &get.told, 1, 0);
+    framed(&unsigned_.input, &get.told, 0, 0);
+    call *all[] = {&put, &get, &range, &more, &closed, &unsigned_};
+    for (size_t i = 0; i < sizeof all / sizeof *all; i++) measure(all[i]);
+    return 0;
+}

@@ -1,0 +1,302 @@
+/* Fuzzing of the answering call: a libFuzzer target, built and run by fuzz/run.sh.
+
+   libabi.a is not instrumented, so AddressSanitizer does not see what it touches: each range lent to it lies between two inaccessible
+   pages, right before the one or right after the other, and a byte too many ends the run. The plain C box (bench/box.c) answers the same
+   call on heap copies of the exact lengths, under AddressSanitizer. It is instrumented, so its branches lead the fuzzer; and both must
+   leave the same bytes. */
+#include "../bench/client.h"
+#include <stdio.h>
+#include <sys/mman.h>
+
+#ifdef PLAIN_TWICE /* the plain box on both sides, to try this program */
+#define ridgeladle_answer plain_answer
+#define ridgeladle_find plain_find
+#else
+#include "../include/ridgeladle.h"
+#endif
+
+enum { PAGE = 4096, BLOCK = 512, MOST_STORE = 128 * BLOCK, MOST_INPUT = 12288, MOST_OUT = 5000, EDGE = 64, CALLS = 4, NUMBER = 7, KEY_LEN = 10 };
+
+static void hold(int fact, const char *what) {
+    if (!fact) {
+        fprintf(stderr, "not held: %s\n", what);
+        abort();
+    }
+}
+
+/* ---- Lent ranges */
+
+enum { STORE, RECORD, CONNECTION, INPUT, OUT, COUNTS, PARTS };
+
+typedef struct {
+    uint8_t *at;
+    size_t n;
+} range;
+
+/* The pages in which each part is lent to Ridgeladle. */
+static range pages[PARTS];
+
+static range new_pages(size_t most) {
+    size_t n = (most + EDGE + PAGE - 1) / PAGE * PAGE;
+    uint8_t *p = mmap(NULL, n + 2 * PAGE, PROT_NONE, MAP_PRIVATE | MAP_ANONYMOUS, -1, 0);
+    hold(p != MAP_FAILED && mprotect(p + PAGE, n, PROT_READ | PROT_WRITE) == 0, "pages are there");
+    return (range){p + PAGE, n};
+}
+
+static range heap_copy(range of) {
+    range r = {malloc(of.n), of.n};
+    hold(r.at != NULL, "memory is there");
+    if (of.n) memcpy(r.at, of.at, of.n);
+    return r;
+}
+
+/* Where the edge within the pages is: the bytes on that side of the range that are not beyond a page. */
+static uint8_t *edge_of(range r, int low) { return low ? r.at + r.n : r.at - EDGE; }
+
+static range lend(int part, range of, int low) {
+    range p = pages[part], r = {low ? p.at : p.at + p.n - of.n, of.n};
+    hold(of.n + EDGE <= p.n, "the pages have room");
+    if (of.n) memcpy(r.at, of.at, of.n);
+    memset(edge_of(r, low), 0xa5, EDGE);
+    return r;
+}
+
+static void hold_edge(range r, int low) {
+    for (int i = 0; i < EDGE; i++) hold(edge_of(r, low)[i] == 0xa5, "no byte beside a lent range changes");
+}
+
+static int same(range a, range b) { return a.n == b.n && (a.n == 0 || memcmp(a.at, b.at, a.n) == 0); }
+
+/* NULL may stand for a range of no bytes. */
+static uint8_t *place(range r, int null) { return r.n == 0 && null ? NULL : r.at; }
+
+/* ---- What the first bytes of an input choose */
+
+typedef struct {
+    uint8_t store, blocks, entries, store_place[2], store_change;
+    uint8_t record, record_place[2], record_change;
+    uint8_t connection, last;
+    uint8_t out, form, value, type, step, identity, end, sides;
+} choices;
+
+/* A store of 128 entries; a record as formatted, one of three ACLs, and the same with other bytes where the layout uses none; a value part. */
+static uint8_t full[MOST_STORE], formatted[PLAIN_RECORD], table[PLAIN_RECORD], littered[PLAIN_RECORD], filling[1025];
+static const uint8_t key[KEY_LEN + 1] = "key-of-one";
+static const int64_t identities[] = {1, 3, -2, 99};
+
+static void seal(uint8_t *b) {
+    uint32_t s = 0;
+    for (uint32_t i = 0; i < 508; i++) s += b[i] * (i + 1);
+    for (int i = 0; i < 4; i++) b[508 + i] = (uint8_t)(s >> (24 - 8 * i));
+}
+
+static void write_acl(uint8_t *at, int64_t identity, uint16_t mask, const char *value, int tls) {
+    for (int i = 0; i < 8; i++) at[i] = (uint8_t)((uint64_t)identity >> (56 - 8 * i));
+    at[8] = KEY_LEN;
+    at[9] = 1;
+    memcpy(at + 16, key, KEY_LEN);
+    at[80] = 0;
+    at[81] = (uint8_t)strlen(value);
+    at[82] = (uint8_t)(mask >> 8);
+    at[83] = (uint8_t)mask;
+    at[84] = (uint8_t)tls;
+    memcpy(at + 88, value, strlen(value));
+}
+
+/* Identity 1 may all, 3 may all if protected, -2 may read and range what starts with "key0". */
+static void write_table(uint8_t *record, int unused) {
+    memset(record, unused, PLAIN_RECORD);
+    memset(record, 0, 8);
+    record[8] = 3;
+    write_acl(record + 16, 1, 0x3bf, "", 0);
+    write_acl(record + 16 + 368, 3, 0x3bf, "", 1);
+    write_acl(record + 16 + 2 * 368, -2, 0x9, "key0", 0);
+}
+
+static void prepare(void) {
+    static const size_t most[PARTS] = {MOST_STORE, PLAIN_RECORD, PLAIN_CONNECTION, MOST_INPUT, MOST_OUT, 2 * sizeof(uint64_t)};
+    for (int i = 0; i < PARTS; i++) pages[i] = new_pages(most[i]);
+    for (int i = 0; i < 128; i++) {
+        uint8_t *b = full + i * BLOCK;
+        size_t n = (size_t)i * 97 % 385;
+        b[0] = 1;
+        b[1] = (uint8_t)snprintf((char *)b + 8, 64, "key%03d", i);
+        b[2] = (uint8_t)snprintf((char *)b + 72, 16, "v%d", i % 3);
+        b[3] = (uint8_t)(i % 33);
+        b[4] = (uint8_t)(n >> 8);
+        b[5] = (uint8_t)n;
+        b[6] = (uint8_t)(i % 7);
+        memset(b + 88, 't', (size_t)i % 33);
+        memset(b + 120, 'x', n);
+        seal(b);
+    }
+    uint8_t blank[BLOCK];
+    hold(plain_format(blank, BLOCK, formatted, key, KEY_LEN) == 0, "format");
+    write_table(table, 0);
+    write_table(littered, 0x5a);
+    for (size_t i = 0; i < sizeof filling; i++) filling[i] = (uint8_t)(i * 13 + 1);
+}
+
+static size_t place_of(const uint8_t two[2], size_t n) { return ((size_t)two[0] << 8 | two[1]) % n; }
+
+/* None; blank; with entries; full; damaged, and with its sum right again; of a wrong length. */
+static range store_of(const choices *c, uint8_t *to) {
+    enum { NONE, BLANK, ENTRIES, FULL, DAMAGED, SEALED, LENGTH, KINDS };
+    int kind = c->store % KINDS;
+    size_t blocks = c->blocks == 255 ? 128 : 1 + c->blocks % 8, n = blocks * BLOCK, used = kind == FULL ? blocks : c->entries % (blocks + 1);
+    if (kind == NONE) return (range){to, 0};
+    memset(to, 0, n);
+    if (kind != BLANK) memcpy(to, full, used * BLOCK);
+    if (kind == DAMAGED || kind == SEALED) {
+        size_t at = place_of(c->store_place, n);
+        to[at] ^= c->store_change;
+        if (kind == SEALED) seal(to + at / BLOCK * BLOCK);
+    }
+    if (kind == LENGTH) n -= 1 + c->store_change;
+    return (range){to, n};
+}
+
+static range record_of(const choices *c, uint8_t *to) {
+    const uint8_t *records[] = {formatted, table, littered, table};
+    memcpy(to, records[c->record % 4], PLAIN_RECORD);
+    if (c->record % 4 == 3) to[place_of(c->record_place, PLAIN_RECORD)] ^= c->record_change;
+    return (range){to, PLAIN_RECORD};
+}
+
+/* The last sequence: small, or with `last` as its first byte. */
+static uint64_t last_of(const choices *c) {
+    uint64_t low = c->last & 1 ? UINT64_MAX >> 8 : 0;
+    return c->connection & 8 ? (uint64_t)c->last << 56 | low : (uint64_t)(int8_t)c->last;
+}
+
+static range connection_of(const choices *c, uint8_t *to) {
+    plain_connect(to, NUMBER, 0);
+    for (int i = 0; i < 8; i++) to[16 + i] = (uint8_t)(last_of(c) >> (56 - 8 * i));
+    if (c->connection & 1) to[8] = c->connection & 0x20 ? 0x40 : 1;
+    if (c->connection & 2) to[10] = c->connection & 0x10 ? 0x80 : 1;
+    if (c->connection & 4) memset(to + 11, 0x5a, 5), memset(to + 24, 0x5a, 8);
+    if (c->connection >= 0xf8) to[9] = c->connection;
+    return (range){to, PLAIN_CONNECTION};
+}
+
+/* The input: the rest of the fuzzer's bytes as they are; or as a message; or, signed, as a command, as a body, or as the part of a body that a
+   message type needs. */
+static range input_of(const choices *c, const uint8_t *rest, size_t n, text *to) {
+    static const int types[] = {2, 4, 6, 8, 10, 12, 16, 22, 26, 30, 32, 24, -1, 3, 28, 42};
+    static const size_t values[] = {0, 0, 0, 1, 384, 385, 1024, 1025};
+    static text body, told, signed_;
+    int type = types[c->type % 16], form = c->form % 5;
+    if (form == 0) {
+        to->n = 0;
+        push(to, rest, n);
+    } else {
+        int64_t identity = identities[c->identity % 4];
+        unsigned part = type == 12 ? 2 : type == 22 ? 3 : type == 26 ? 7 : 1;
+        body.n = 0;
+        if (form == 4) bytes(&body, part, rest, n);
+        else push(&body, rest, n);
+        text *m = &body;
+        if (form >= 3) {
+            command(&told, NUMBER, (int64_t)(last_of(c) + (uint64_t)(int8_t)c->step), type, body.at, body.n);
+            m = &told;
+        }
+        if (form >= 2) {
+            message(&signed_, identity, key, c->identity & 0x80 ? 1 : KEY_LEN, 1, m->at, m->n);
+            m = &signed_;
+        }
+        frame(to, m->at, m->n, filling, values[c->value % 8]);
+    }
+    if (c->end & 0x80) push(to, filling, c->end & 0x7f);
+    else to->n -= c->end < to->n ? c->end : to->n;
+    return (range){to->at, to->n};
+}
+
+/* ---- A call on both sides */
+
+static uint32_t call_plain(range r[PARTS]) {
+    uint64_t counts[2];
+    memcpy(counts, r[COUNTS].at, sizeof counts);
+    uint32_t said = plain_answer(r[STORE].at, r[STORE].n, r[RECORD].at, r[CONNECTION].at, r[INPUT].at, r[INPUT].n, r[OUT].at, r[OUT].n, counts);
+    memcpy(r[COUNTS].at, counts, sizeof counts);
+    return said;
+}
+
+static uint32_t call_ours(range r[PARTS], int null) {
+    return ridgeladle_answer(place(r[STORE], null), r[STORE].n, r[RECORD].at, r[CONNECTION].at, place(r[INPUT], null), r[INPUT].n,
+                             place(r[OUT], null), r[OUT].n, (uint64_t *)(void *)r[COUNTS].at);
+}
+
+/* What is known of every answer and refusal, without a second box. */
+static void hold_rules(uint32_t said, range before[PARTS], range after[PARTS]) {
+    const uint8_t *was = before[CONNECTION].at, *is = after[CONNECTION].at;
+    uint64_t counts[2];
+    memcpy(counts, after[COUNTS].at, sizeof counts);
+    hold(said <= 5, "an answer, or refusal 1 to 5");
+    hold((said == 1) == (before[OUT].n < PLAIN_ROOM), "refusal 1 exactly for a short reply buffer");
+    hold(same(before[INPUT], after[INPUT]), "the input stays");
+    if (said) {
+        for (int i = 0; i < PARTS; i++) hold(same(before[i], after[i]), "a refusal changes no byte");
+        return;
+    }
+    hold(was[9] == 0, "a closed connection is refused");
+    hold(counts[0] >= 1 && counts[0] <= before[INPUT].n, "taken is within the input");
+    hold(counts[1] >= 9 && counts[1] <= PLAIN_ROOM, "written is within 4,096");
+    hold(after[OUT].at[0] == 0x46, "the reply is a frame");
+    hold(memcmp(before[OUT].at + counts[1], after[OUT].at + counts[1], before[OUT].n - counts[1]) == 0, "the buffer stays after the reply");
+    hold(memcmp(was, is, 9) == 0 && memcmp(was + 11, is + 11, 5) == 0 && memcmp(was + 24, is + 24, 8) == 0, "the rest of the connection stays");
+    hold(is[9] == 0 || (same(before[STORE], after[STORE]) && same(before[RECORD], after[RECORD]) && memcmp(was + 10, is + 10, 22) == 0),
+         "closing changes nothing but that");
+}
+
+/* The call on both sides; what it leaves in `state`. What it said. */
+static uint32_t call(range state[PARTS], int sides, int null) {
+    range before[PARTS], plain[PARTS], ours[PARTS];
+    for (int i = 0; i < PARTS; i++) {
+        before[i] = heap_copy(state[i]);
+        plain[i] = heap_copy(state[i]);
+        ours[i] = lend(i, state[i], sides >> i & 1);
+    }
+    uint32_t said = call_ours(ours, null);
+    for (int i = 0; i < PARTS; i++) hold_edge(ours[i], sides >> i & 1);
+    hold_rules(said, before, ours);
+    hold(said == call_plain(plain), "both boxes answer alike");
+    for (int i = 0; i < PARTS; i++) {
+        hold(same(plain[i], ours[i]), "both boxes leave the same bytes");
+        if (state[i].n) memcpy(state[i].at, ours[i].at, state[i].n);
+        free(before[i].at);
+        free(plain[i].at);
+    }
+    return said;
+}
+
+/* Local read on both sides, on the store that is left. */
+static void find(range store, const uint8_t *asked, size_t n, int sides) {
+    uint64_t part[2] = {1, 2}, other[2] = {1, 2};
+    range s = lend(STORE, store, sides & 1), k = lend(INPUT, (range){(uint8_t *)(uintptr_t)asked, n}, sides >> INPUT & 1);
+    uint32_t said = ridgeladle_find(s.at, s.n, k.at, k.n, part);
+    hold(said <= 2 && same(s, store), "local read changes nothing");
+    hold(said == plain_find(store.at, store.n, asked, n, other) && part[0] == other[0] && part[1] == other[1], "both boxes find alike");
+    hold(said || (part[0] <= s.n && part[1] <= s.n - part[0]), "the part lies in the store");
+}
+
+int LLVMFuzzerTestOneInput(const uint8_t *data, size_t size) {
+    static uint8_t store[MOST_STORE], record[PLAIN_RECORD], connection[PLAIN_CONNECTION], out[MOST_OUT];
+    static const size_t outs[] = {PLAIN_ROOM, 0, PLAIN_ROOM - 1, MOST_OUT};
+    static text input;
+    uint64_t counts[2] = {1, 2};
+    choices c;
+    if (size < sizeof c || size > 10240) return 0;
+    if (!pages[0].at) prepare();
+    memcpy(&c, data, sizeof c);
+    data += sizeof c;
+    size -= sizeof c;
+    for (size_t i = 0; i < sizeof out; i++) out[i] = (uint8_t)(i * 31 + 7);
+    range state[PARTS] = {store_of(&c, store), record_of(&c, record), connection_of(&c, connection), input_of(&c, data, size, &input),
+                          {out, outs[c.out % 4]}, {(uint8_t *)counts, sizeof counts}};
+    for (int i = 0; i < CALLS && call(state, c.sides, c.sides >> 7) == 0; i++) {
+        state[INPUT].at += counts[0];
+        state[INPUT].n -= counts[0];
+    }
+    find(state[STORE], data, size < 66 ? size : 66, c.sides);
+    return 0;
+}

@@ -1,0 +1,26 @@
+#!/bin/sh
+# Fuzzes the answering call for T seconds (60 if not said), over a corpus in target/fuzz that is kept from run to run.
+# PLAIN_TWICE=1 puts the plain box on both sides, to try the target where crate abi is not proved.
+set -eu
+cd "$(dirname "$0")/.."
+if ! [ -e "$(clang -print-file-name=libclang_rt.fuzzer-x86_64.a 2>/dev/null)" ]; then
+    apt-get update -q >/dev/null && apt-get install -qy clang libclang-rt-dev >/dev/null
+fi
+if [ "${PLAIN_TWICE:-}" ]; then
+    side=-DPLAIN_TWICE
+else
+    rt staticlib abi >/dev/null
+    side=target/staticlib/libabi.a
+fi
+mkdir -p target/fuzz/corpus target/fuzz/found
+fuzz/seeds.py target/fuzz/seeds
+clang -g -O2 -std=gnu99 -Wall -Wextra -fsanitize=fuzzer,address -o target/fuzz/answer \
+    fuzz/answer.c bench/box.c bench/sha1.c $side
+log=target/fuzz/log
+if ! target/fuzz/answer -max_total_time="${T:-60}" -max_len=9400 -artifact_prefix=target/fuzz/found/ -print_final_stats=1 \
+    target/fuzz/corpus target/fuzz/seeds >$log 2>&1; then
+    tail -60 $log
+    exit 1
+fi
+grep -E '^(stat::|#[0-9]+.DONE)' $log
+echo "fuzz: nothing found"

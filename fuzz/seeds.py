@@ -1,0 +1,125 @@
+#!/usr/bin/env python3
+"""seeds.py FOLDER: writes a seed corpus for fuzz/answer.c, with the encoder of conformance/model.py.
+
+A seed is the choices of answer.c, a byte or two each, and the bytes that they turn into an input.
+"""
+import pathlib
+import sys
+
+sys.path.insert(0, str(pathlib.Path(__file__).resolve().parent.parent / "conformance"))
+from model import TYPES, field, frame, header_of, message, signed
+
+NUMBER, KEY = 7, b"key-of-one"
+ORDER = ["GET", "PUT", "DELETE", "GETNEXT", "GETPREVIOUS", "GETKEYRANGE", "GETVERSION", "SETUP", "SECURITY", "NOOP", "FLUSHALLDATA"]
+NO_STORE, BLANK, ENTRIES, FULL, DAMAGED, SEALED, LENGTH = range(7)
+RAW, MESSAGE, COMMAND, BODY, PART = range(5)
+NO_VALUE, VALUE_384, VALUE_385 = 0, 4, 5
+
+
+def seed(rest, form=PART, operation="GET", store=ENTRIES, blocks=3, entries=2, store_place=0, store_change=0, record=1, record_place=0,
+         record_change=0, connection=0, last=0, out=0, value=NO_VALUE, step=1, identity=0, end=0, sides=0):
+    return bytes([store, blocks, entries, *store_place.to_bytes(2, "big"), store_change, record, *record_place.to_bytes(2, "big"), record_change,
+                  connection, last, out, form, value, ORDER.index(operation), step, identity, end, sides]) + rest
+
+
+def key_values():
+    for operation in ("GET", "GETVERSION", "GETNEXT", "GETPREVIOUS"):
+        for key in (b"key000", b"key0005", b"k", b"z" * 64):
+            yield seed(message((3, key)), operation=operation)
+        yield seed(message((3, b"key001"), (7, 1)), operation=operation, identity=2)
+    for store in (BLANK, ENTRIES, FULL):
+        for part in (message((3, b"new")), message((2, b"v9"), (3, b"key000"), (4, b"v0"), (5, b"tag"), (6, 1)),
+                     message((3, b"key001"), (8, 1), (9, 2))):
+            yield seed(part, operation="PUT", store=store, value=VALUE_384)
+            yield seed(part, operation="DELETE", store=store)
+    yield seed(message((3, b"key000")), operation="PUT", value=VALUE_385)
+
+
+def ranges():
+    for flags in ((), ((3, 1),), ((4, 1),), ((3, 1), (4, 1), (6, 1))):
+        yield seed(message((1, b"key001"), (2, b"key003"), *flags), operation="GETKEYRANGE", blocks=255, store=FULL)
+    yield seed(message((1, b""), (2, b"\xff"), (5, 32)), operation="GETKEYRANGE", blocks=255, store=FULL)
+    yield seed(message((1, b"key0"), (2, b"key02"), (5, 2)), operation="GETKEYRANGE", identity=2)
+
+
+def scope(*permissions, offset=None, value=None, tls=None):
+    return message((1, offset), (2, value), *((3, p) for p in permissions), (4, tls))
+
+
+def acl(identity, key, *scopes, algorithm=None):
+    return message((1, identity), (2, key), (3, algorithm), *((4, s) for s in scopes))
+
+
+def tables():
+    every = scope(0, 1, 2, 3, 4, 5, 7, 8, 9)
+    for acls in ([acl(1, b"k", every)], [acl(-1, b"k" * 64, every, scope(0, offset=64, value=b"v" * 64, tls=1))], [acl(1, b"k", every, algorithm=2)],
+                 [acl(n, b"k", *[scope(n)] * 4) for n in (0, 1, 2, 3, 4, 5, 7, 8)], [acl(n, b"k", every) for n in range(9)],
+                 [acl(1, b"k", every), acl(1, b"l", every)], [acl(1, b"k", scope(0, offset=-1))], [acl(1, b"k", *[scope(0)] * 5)], []):
+        yield seed(message(*((2, a) for a in acls)), operation="SECURITY")
+
+
+def others():
+    for operation in ("NOOP", "FLUSHALLDATA"):
+        yield seed(b"", form=BODY, operation=operation)
+    for part in (b"", message((1, 5)), message((1, -1))):
+        yield seed(part, operation="SETUP")
+    yield seed(message((1, message((3, b"key000")))) + field(15, b"unlisted"), form=BODY)
+    command = message((1, header_of(NUMBER, 1, TYPES["GET"], cluster=0)), (2, message((1, message((3, b"key000"))))), (3, b"status"))
+    yield seed(command, form=COMMAND)
+    yield seed(b"", form=COMMAND)
+    yield seed(command, form=COMMAND, identity=0x80)
+    yield seed(command, form=COMMAND, identity=3)
+    yield seed(signed(1, KEY, command, extra=field(6, b"pin"), extra_auth=field(9, 1)), form=MESSAGE)
+    yield seed(message((4, 2), (7, command)), form=MESSAGE)
+    later = message((1, header_of(NUMBER, 2, TYPES["DELETE"])), (2, message((1, message((3, b"key000"), (8, 1))))))
+    yield seed(frame(signed(1, KEY, command)) + frame(signed(1, KEY, later)) + b"\0", form=RAW)
+    for rest in (b"", b"\x46", b"\x46\0\0\x21", b"\x46\0\0\x20\0\0\0\4\1", b"\0", frame(b"")):
+        yield seed(rest, form=RAW)
+
+
+def states():
+    key = message((3, b"key000"))
+    for change in ({"store": NO_STORE, "sides": 0x80}, {"store": LENGTH}, {"blocks": 255, "entries": 128}, {"record": 0}, {"record": 2},
+                   {"out": 1, "sides": 0x80}, {"out": 2}, {"out": 3}, {"end": 1}, {"end": 0x90}, {"sides": 0x7f},
+                   {"identity": 1}, {"connection": 1, "identity": 1}, {"connection": 0xf8}, {"connection": 0x37, "last": 5},
+                   {"connection": 2, "last": 0xff, "step": 0}, {"connection": 10, "last": 0x7f}, {"connection": 10, "last": 0x80},
+                   {"connection": 10, "last": 0x80, "step": 0xff}):
+        yield seed(key, **change)
+    for place in (0, 1, 2, 3, 4, 6, 7, 8, 71, 72, 88, 120, 503, 504, 508, 511, 512, 520, 1024, 1535):
+        for kind in (DAMAGED, SEALED):
+            yield seed(key, store=kind, store_place=place, store_change=1)
+    for place in (0, 8, 9, 23, 24, 25, 31, 96, 97, 98, 99, 100, 399, 2959):
+        yield seed(key, record=3, record_place=place, record_change=0x41)
+    yield seed(key, record=3, record_place=391, record_change=2)  # identity 1 twice
+
+
+def limits():
+    command = message((1, header_of(NUMBER, 1, TYPES["NOOP"])))
+    for length in (8192, 8193):
+        room = length - len(signed(1, KEY, command)) - len(field(15, bytes(8000))) + 8000
+        yield seed(signed(1, KEY, command, extra=field(15, bytes(room))), form=MESSAGE)
+        yield seed(signed(1, KEY, command + field(15, bytes(room - 1))), form=MESSAGE)
+    for number, most in ((2, 16), (3, 64), (4, 16), (5, 32)):
+        for length in (most, most + 1):
+            part = {3: b"key000", number: b"x" * length}
+            yield seed(message(*sorted(part.items()), (8, 1)), operation="PUT")
+    for number in (-1 << 31, (-1 << 31) - 1, (1 << 31) - 1, 1 << 31):
+        yield seed(message((1, b"a"), (2, b"z"), (5, number)), operation="GETKEYRANGE")
+        yield seed(message((1, header_of(NUMBER, 1, number))), form=COMMAND)
+        yield seed(message((2, acl(1, b"k", scope(0, number)))), operation="SECURITY")
+        yield seed(message((2, acl(1, b"k", scope(0), algorithm=number))), operation="SECURITY")
+    for last in (b"\0", b"\1", b"\2"):
+        yield seed(b"\x08" + b"\xff" * 9 + last, form=PART, operation="SETUP")
+        yield seed(b"\x08" + b"\x80" * 9 + last, form=PART, operation="SETUP")
+
+
+def main():
+    folder = pathlib.Path(sys.argv[1])
+    folder.mkdir(parents=True, exist_ok=True)
+    for part in (key_values, ranges, tables, others, states, limits):
+        for n, data in enumerate(part()):
+            (folder / f"{part.__name__}-{n:02}").write_bytes(data)
+
+
+if __name__ == "__main__":
+    main()
