@@ -1,10 +1,12 @@
-.PHONY: test run bench
+.PHONY: test run bench conformance mutants fuzz
 
 # Everything else first; the toolchain's gate last, so that its line is the last.
 test:
 	tests/expected
 	rt fmt --check
 	examples/run.sh
+	conformance/library.sh
+	conformance/run.py
 	rt ci
 
 # What there is to run: a day at a site, and the outside vectors, with a line for each saying what was compared.
@@ -20,3 +22,18 @@ run:
 
 bench:
 	bench/run
+
+# The library against document 01's model: its tables, and N random calls from SEED (conformance/README.md).
+N = 12000
+SEED = 1
+conformance:
+	conformance/library.sh
+	conformance/run.py --calls $(N) --seed $(SEED)
+
+# Wrong boxes that the kit must catch.
+mutants:
+	conformance/mutants.py
+
+# T=600 make fuzz takes ten minutes instead of one.
+fuzz:
+	fuzz/run.sh

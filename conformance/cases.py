@@ -1,14 +1,11 @@
-#!/usr/bin/env python3
-"""cases.py FOLDER: runs the cases of FOLDER/answers.jsonl and FOLDER/calls.jsonl through the model and says how many agree.
+"""The sample cases of a folder (answers.jsonl, calls.jsonl; README.md beside them has their form) as calls, with what each expects there to be after it.
 
-Each line of a file is a case with what is expected of one call; README.md beside them has their form.
+The cases are another model's answers. They speak of a table, not of a record: one that a record can't hold is left out and counted.
 """
-import dataclasses
-import hashlib
 import json
 import pathlib
-import sys
 
+import box
 import model
 
 
@@ -37,7 +34,7 @@ def record_bytes(said):
     data[8] = len(said["acls"])
     for n, acl in enumerate(said["acls"][:8]):
         at, key = 16 + n * model.ACL_PLACE, bytes.fromhex(acl["key"])
-        data[at:at + 8] = acl["identity"].to_bytes(8, "big", signed=True)
+        data[at:at + 8] = model.word(acl["identity"])
         data[at + 8], data[at + 9] = len(key), len(acl["scopes"])
         data[at + 16:at + 80] = key[:64].ljust(64, b"\0")
         for m, scope in enumerate(acl["scopes"][:4]):
@@ -50,57 +47,68 @@ def record_bytes(said):
     return bytes(data)
 
 
-def connection_of(said):
-    return model.Connection(said["number"], said["protected"], said["closed"], said["last"])
+def connection_bytes(said):
+    data = model.connect(said["number"], said["protected"])
+    last = said["last"]
+    return data[:9] + bytes([said["closed"], last is not None]) + data[11:16] + model.word(last or 0) + data[24:]
 
 
-def answer_agrees(case):
-    box, connection, wanted = model.Box(store_bytes(case["store"]), record_bytes(case["table"])), connection_of(case["conn"]), case["expect"]
-    before = dataclasses.replace(box)
-    got = model.answer(box, connection, bytes.fromhex(case["input"]), case["out_len"])
-    after = model.Box(before.store if wanted["store"] == "same" else store_bytes(wanted["store"]),
-                      before.record if wanted["table"] == "same" else record_bytes(wanted["table"]))
-    said = model.Answer(wanted["refusal"] or 0, bytes.fromhex(wanted["reply"] or ""), wanted["taken"] or 0)
-    return got == said and box == after and connection == connection_of(wanted["conn"])
+def answer_case(said):
+    wanted = said["expect"]
+    call = box.Call("answer", store=store_bytes(said["store"]), record=record_bytes(said["table"]), connection=connection_bytes(said["conn"]),
+                    input=bytes.fromhex(said["input"]), room=said["out_len"])
+    after = {"returned": wanted["refusal"] or 0, "store": call["store"] if wanted["store"] == "same" else store_bytes(wanted["store"]),
+             "record": call["record"] if wanted["table"] == "same" else record_bytes(wanted["table"]), "connection": connection_bytes(wanted["conn"]),
+             "input": call["input"], "out": box.FILL[:call["room"]], "counts": box.FILL[:16]}
+    if not wanted["refusal"]:
+        reply = bytes.fromhex(wanted["reply"])
+        after.update(out=reply + after["out"][len(reply):], counts=box.counted(wanted["taken"], len(reply)))
+    return call, after
 
 
-def call_agrees(case):
-    wanted, call = case["expect"], case["call"]
-    if call == "format":
-        box = model.Box(b"\5" * case["store_len"], b"\7" * model.RECORD)
-        made = dataclasses.replace(box) if wanted["refusal"] else model.Box(store_bytes(wanted["store"]), record_bytes(wanted["table"]))
-        return model.format_box(box, bytes.fromhex(case["key"])) == (wanted["refusal"] or 0) and box == made
-    if call == "connect":
-        return model.Connection(case["number"], case["protected"]) == connection_of(wanted)
-    if call == "local_read":
-        how, start, value = model.local_read(store_bytes(case["store"]), bytes.fromhex(case["key"]))
-        said = wanted["answer"] if wanted["answer"] != 2 else "STORE_BAD"
-        return (how, start, value.hex(), len(value)) == (said, wanted["start"], wanted["value"], wanted["length"])
-    if call == "block":
-        return model.block_of(model.Entry(*unhexed(case["entry"]))).hex() == wanted
-    if call == "sha1":
-        return hashlib.sha1(bytes.fromhex(case["data"])).hexdigest() == wanted
-    digest = model.hmac_call(bytes.fromhex(case["key"]), bytes.fromhex(case["data"]))[1]
-    return digest == (bytes.fromhex(wanted) if wanted else None)
+def other_case(said):
+    """As `answer_case`; a block is compared as what a PUT of its entry leaves in a store of one."""
+    wanted, name = said["expect"], said["call"]
+    if name == "format":
+        call = box.Call("format", store=b"\5" * said["store_len"], record=b"\7" * model.RECORD, key=bytes.fromhex(said["key"]))
+        refused = bool(wanted["refusal"])
+        return call, {"returned": wanted["refusal"] or 0, "store": call["store"] if refused else store_bytes(wanted["store"]),
+                      "record": call["record"] if refused else record_bytes(wanted["table"]), "key": call["key"]}
+    if name == "connect":
+        call = box.Call("connect", connection=b"\7" * model.CONNECTION, number=said["number"], protected=int(said["protected"]))
+        return call, {"returned": 0, "connection": connection_bytes(wanted)}
+    if name == "local_read":
+        call = box.Call("find", store=store_bytes(said["store"]), key=bytes.fromhex(said["key"]))
+        returned = {"found": 0, "not found": 1, 2: 2}[wanted["answer"]]
+        return call, {"returned": returned, "store": call["store"], "key": call["key"],
+                      "part": box.FILL[:16] if returned else box.counted(wanted["start"], wanted["length"])}
+    if name == "block":
+        return block_case(model.Entry(*unhexed(said["entry"])), bytes.fromhex(wanted))
+    if name == "sha1":
+        text = bytes.fromhex(said["data"])
+        return box.Call("sha1", text=text), {"returned": 0, "text": text, "digest": bytes.fromhex(wanted)}
+    key, text = bytes.fromhex(said["key"]), bytes.fromhex(said["data"])
+    returned = 0 if wanted else 1 if len(key) > 128 else 2
+    return box.Call("hmac", key=key, text=text), {"returned": returned, "key": key, "text": text,
+                                                  "digest": bytes.fromhex(wanted) if wanted else box.FILL[:20]}
 
 
-def main():
-    different = 0
-    for name, agrees in (("answers.jsonl", answer_agrees), ("calls.jsonl", call_agrees)):
-        count = {"agree": 0, "different": 0, "not held by a record": 0}
-        for line in (pathlib.Path(sys.argv[1]) / name).read_text().splitlines():
-            case = json.loads(line)
+def block_case(entry, wanted):
+    key = b"k"
+    part = model.message((2, entry.version), (3, entry.key), (5, entry.tag), (6, entry.algorithm or None))
+    command = model.message((1, model.header_of(0, 1, model.TYPES["PUT"])), (2, model.message((1, part))))
+    record = model.record_of(model.Table(0, (model.Acl(1, key, (model.Scope(frozenset(model.PERMISSIONS)),)),)))
+    call = box.Call("answer", store=bytes(512), record=record, connection=model.connect(0, 0), input=model.frame(model.signed(1, key, command), entry.value),
+                    room=4096)
+    return call, {"store": wanted}
+
+
+def read(folder):
+    """Each case of a folder: its name, the call, and what is expected of things after it; None where a record can't hold it."""
+    for name, made in ("answers.jsonl", answer_case), ("calls.jsonl", other_case):
+        for number, line in enumerate((pathlib.Path(folder) / name).read_text().splitlines()):
+            said = json.loads(line)
             try:
-                how = "agree" if agrees(case) else "different"
+                yield said.get("name") or f"{said['call']}, line {number + 1} of {name}", made(said)
             except NotHeld:
-                how = "not held by a record"
-            count[how] += 1
-            if how != "agree":
-                print(f"{how}: {case.get('name') or case['call']}")
-        different += count["different"]
-        print(f"{name}: {sum(count.values())} cases, " + ", ".join(f"{number} {how}" for how, number in count.items()))
-    return 1 if different else 0
-
-
-if __name__ == "__main__":
-    sys.exit(main())
+                yield said["name"], None

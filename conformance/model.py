@@ -1,9 +1,10 @@
-"""A model of the box, written from document 01, its readings (docs/DECISIONS.md) and the layout of the device record alone.
+"""A model of the box, written from document 01, its readings (docs/DECISIONS.md) and the layouts of the device record and the connection alone.
 
 Nothing here is taken from the Rattle code, so that the two can be held against each other. Store and device record are bytes, as the host lends them.
 The sections are document 01's. Numbers are signed.
 """
 import dataclasses
+import functools
 import hashlib
 import hmac
 
@@ -24,6 +25,7 @@ ROOM, MOST_MESSAGE, MOST_VALUE = 4096, 8192, 1024
 # ---- Blocks
 
 BLOCK, MOST_BLOCKS = 512, 128
+BLANK = bytes(BLOCK)
 
 
 @dataclasses.dataclass(frozen=True)
@@ -35,6 +37,7 @@ class Entry:
     value: bytes = b""
 
 
+@functools.lru_cache(4096)
 def block_of(entry):
     head = bytes([1, len(entry.key), len(entry.version), len(entry.tag)]) + len(entry.value).to_bytes(2, "big") + bytes([entry.algorithm, 0])
     parts = entry.key.ljust(64, b"\0") + entry.version.ljust(16, b"\0") + entry.tag.ljust(32, b"\0") + entry.value.ljust(384, b"\0")
@@ -42,6 +45,7 @@ def block_of(entry):
     return body + sum(byte * (place + 1) for place, byte in enumerate(body)).to_bytes(4, "big")
 
 
+@functools.lru_cache(4096)
 def entry_of(block):
     """The entry of a used block, or None where the block breaks a rule."""
     key, version, tag, value, algorithm = block[1], block[2], block[3], int.from_bytes(block[4:6], "big"), block[6]
@@ -60,7 +64,7 @@ def entries_of(store):
     if not store_length_good(len(store)):
         return None
     blocks = [bytes(store[at:at + BLOCK]) for at in range(0, len(store), BLOCK)]
-    while blocks and not any(blocks[-1]):
+    while blocks and blocks[-1] == BLANK:
         blocks.pop()
     entries = [entry_of(block) for block in blocks]
     if None in entries or any(a.key >= b.key for a, b in zip(entries, entries[1:])):
@@ -129,6 +133,7 @@ def record_of(table):
     return head + b"".join(map(acl_bytes, table.acls)).ljust(8 * ACL_PLACE, b"\0")
 
 
+@functools.lru_cache(256)
 def table_of(record):
     """The table that a device record holds, or None where it breaks a rule. Bytes that the layout doesn't use are not looked at."""
     def scope_at(at):
@@ -169,6 +174,35 @@ class Box:
     record: bytes
 
 
+# The connection's 32 bytes: 0-7 number, 8 protected, 9 closed, 10 sequence seen (each: not zero is yes), 16-23 last sequence, the rest not used.
+
+CONNECTION = 32
+
+
+def word(number):
+    return number.to_bytes(8, "big", signed=True)
+
+
+def connect(number, protected):
+    """What Connect writes."""
+    return word(number) + bytes([protected != 0]) + bytes(23)
+
+
+def connection_of(data):
+    last = int.from_bytes(data[16:24], "big", signed=True) if data[10] else None
+    return Connection(int.from_bytes(data[:8], "big", signed=True), data[8] != 0, data[9] != 0, last)
+
+
+def connection_after(data, connection):
+    """The bytes after an answer that left the connection so: only what changes is written."""
+    before, after = connection_of(data), bytearray(data)
+    if connection.closed and not before.closed:
+        after[9] = 1
+    if connection.last != before.last:
+        after[10], after[16:24] = 1, word(connection.last)
+    return bytes(after)
+
+
 # ---- Frame and fields
 
 WORD = 1 << 64
@@ -179,6 +213,8 @@ class Refused(Exception):
 
 
 def varint(n):
+    if 0 <= n < 128:
+        return bytes((n,))
     n %= WORD
     out = bytearray()
     while n > 127:
@@ -314,7 +350,7 @@ def framed(data):
 # ---- Signatures
 
 def hmac_of(key, text):
-    return hmac.new(key, text, hashlib.sha1).digest()
+    return hmac.digest(key, text, hashlib.sha1)
 
 
 def hmac_call(key, text):

@@ -1,0 +1,302 @@
+#!/usr/bin/env python3
+"""mutants.py [--every] [--source FILE..] : shows that the kit catches wrong boxes.
+
+Plants a fault at a time in the plain C box (bench/box.c, bench/sha1.c), builds it, and plays the kit's calls on it until it differs from the model. Prints
+where each was caught, and ends with 1 where one was not.
+
+  --every     instead of the faults listed here: each number one more and one less, each comparison, each `&&`, `||` and `!` another, a fault at a time.
+              Those that are not caught are to be read: a fault that changes nothing can't be caught.
+"""
+import argparse
+import collections
+import pathlib
+import re
+import signal
+import subprocess
+import sys
+import time
+
+import box
+import run
+
+TOP = run.TOP
+PLACE = TOP / "target" / "conformance" / "mutants"
+
+# Each fault: what is wrong with the box, and an edit of its source.
+FAULTS = [
+    ("a tag of 33 is accepted", "v->tag.n <= 32 &&", "v->tag.n <= 33 &&"),
+    ("SECURITY resets the cluster version", "memcpy(b->record + 8, c->table->record + 8, PLAIN_RECORD - 8);",
+     "memcpy(b->record, c->table->record, PLAIN_RECORD);"),
+    ("ten permissions are accepted", "count > 9", "count > 10"),
+    ("a newVersion of 17 is accepted", "v->new_version.n <= 16", "v->new_version.n <= 17"),
+    ("a dbVersion of 17 is accepted", "v->db_version.n <= 16", "v->db_version.n <= 17"),
+    ("a key of 65 is accepted", "v->key.n <= 64", "v->key.n <= 65"),
+    ("an empty key is accepted", "v->key.n >= 1 &&", ""),
+    ("a value of 385 is accepted", "PUT ? 384 : 0", "PUT ? 385 : 0"),
+    ("a value part on a GET is accepted", "PUT ? 384 : 0", "PUT ? 384 : 1"),
+    ("metadataOnly on DELETE is accepted", "(type == PUT || type == DELETE) && v->metadata_only", "type == PUT && v->metadata_only"),
+    ("the tag is judged on PUT alone", "v->tag.n <= 32", "(v->tag.n <= 32 || type != PUT)"),
+    ("an equal sequence is accepted", "h->sequence <= be64(connection + 16)", "h->sequence < be64(connection + 16)"),
+    ("sequences are compared without sign", "h->sequence <= be64(connection + 16)", "(uint64_t)h->sequence <= (uint64_t)be64(connection + 16)"),
+    ("SECURITY's reply is signed with the new key", "return reply(key, key_len,", "return reply(acl + 16, acl[8],"),
+    ("permission from one scope, fit from another", "if (!(mask_of(scope) >> permission & 1) ||",
+     "int any = 0; for (size_t j = 0; j < acl[9]; j++) any |= mask_of(scope_at(acl, j)) >> permission & 1;\n        if (!any ||"),
+    ("the value anywhere in the key", "(offset + n <= key->n && same(key->at + offset, scope + 8, n))) return 1;",
+     "0) return 1;\n        for (; offset + n <= key->n; offset++) if (same(key->at + offset, scope + 8, n)) return 1;"),
+    ("batchID is skipped", "case 14: good = 0; break;", "case 14: good = 1; break;"),
+    ("a field of Body that is refused is skipped", "        case 9:\n        case 10: good = 0;\n", "        case 9: good = 0;\n"),
+    ("keys in a request's range are skipped", "case 8: good = 0; break;", "case 8: good = 1; break;"),
+    ("firmwareDownload is skipped", "if (!next(&m, &f) || f.number == 5) return 0;", "if (!next(&m, &f)) return 0;"),
+    ("an unlisted field of an ACL is skipped", "        } else return 0;\n    }\n    if (!has(seen, 1)", "        }\n    }\n    if (!has(seen, 1)"),
+    ("an unlisted field of a Scope is skipped", "f.number != 4 || !read_flag(&f, &seen, &tls)", "f.number == 4 && !read_flag(&f, &seen, &tls)"),
+    ("an unlisted field of a Setup is refused", "if (f.number == 1 && !read_number(&f, &s->seen, &s->cluster)) return 0;",
+     "if (f.number != 1 || !read_number(&f, &s->seen, &s->cluster)) return 0;"),
+    ("an unlisted field of a Message with a high number is refused", "if (!read_varint(m, &tag) || tag >> 32 || tag < 8) return 0;",
+     "if (!read_varint(m, &tag) || tag >> 31 || tag < 8) return 0;"),
+    ("tags of more than 32 bits", "tag >> 32 || tag < 8", "tag < 8"),
+    ("field number 0", "tag >> 32 || tag < 8", "tag >> 32"),
+    ("wire type 5 is refused", "case 5: n = 4; break;", ""),
+    ("wire type 3 is skipped", "default: return 0;\n    }\n    if (n > m->n)", "case 3: break;\n    default: return 0;\n    }\n    if (n > m->n)"),
+    ("a tenth byte of 3", "i == 9 && b > 1", "i == 9 && b > 3"),
+    ("varints of nine bytes at most", "i < m->n && i < 10", "i < m->n && i < 9"),
+    ("a singular field twice", "f->wire == wire && !(*seen & bit)", "f->wire == wire"),
+    ("a listed field with another wire type", "f->wire == wire && !(*seen & bit)", "!(*seen & bit)"),
+    ("an int32 is cut to its low half", "return read_number(f, seen, to) && *to >= INT32_MIN && *to <= INT32_MAX;",
+     "int good = read_number(f, seen, to); *to = (int32_t)*to; return good;"),
+    ("a bool is its low half", "*to = f->value != 0;", "*to = (uint32_t)f->value != 0;"),
+    ("priority is not looked at", "#define PRIORITIES 0x2aau", "#define PRIORITIES 0xffffffffu"),
+    ("algorithm 7", "#define ALGORITHMS 0x7eu", "#define ALGORITHMS 0xfeu"),
+    ("synchronization 0", "#define SYNCHRONIZATIONS 0xeu", "#define SYNCHRONIZATIONS 0xfu"),
+    ("permission 6", "#define PERMISSIONS 0x3bfu", "#define PERMISSIONS 0x3ffu"),
+    ("a length is cut to its low half", "if (n > m->n) return 0;", "if ((uint32_t)n > m->n) return 0;\n    n = (uint32_t)n;"),
+    ("nine ACLs", "if (t->record[8] == 8) t->good = 0;\n", "if (t->record[8] == 8) return 1;\n"),
+    ("no ACL at all", "if (t->record[8] == 0) t->good = 0;", ""),
+    ("a fifth scope is dropped", "if (scopes == 4) t->good = 0;", "if (scopes == 4) continue;"),
+    ("an ACL without identity is identity 0", "if (!has(seen, 1) || key.n < 1", "if (key.n < 1"),
+    ("equal identities", "if (same(other, to, 8)) t->good = 0;", "(void)other;"),
+    ("an ACL's key of 65", "key.n > 64 || scopes < 1", "key.n > 65 || scopes < 1"),
+    ("an ACL's empty key", "key.n < 1 || key.n > 64 ||", "key.n > 64 ||"),
+    ("a negative offset is 0", "offset < 0 || offset > 64", "offset > 64"),
+    ("an offset of 65", "offset > 64 ||", "offset > 65 ||"),
+    ("a scope's value of 65", "value.n > 64) *good", "value.n > 65) *good"),
+    ("hmacAlgorithm before the ACL rules", "if (!has(c->body, 7) || !c->table->good) return INVALID_REQUEST;\n        return c->table->sha1 ? 0 : NO_SUCH_HMAC_ALGORITHM;",
+     "if (!has(c->body, 7)) return INVALID_REQUEST;\n        return !c->table->sha1 ? NO_SUCH_HMAC_ALGORITHM : c->table->good ? 0 : INVALID_REQUEST;"),
+    ("hmacAlgorithm after the permission", "return c->table->sha1 ? 0 : NO_SUCH_HMAC_ALGORITHM;", "return 0;"),
+    ("nineteen bytes of the hmac are compared", "for (int i = 0; i < 20; i++) difference", "for (int i = 0; i < 19; i++) difference"),
+    ("an hmac of 21 bytes", "if (m->hmac.n != 20) return 0;", "if (m->hmac.n < 20) return 0;"),
+    ("an unknown identity has another code", "if (!acl || !verifies(acl, &m)) return close_with(HMAC_FAILURE",
+     "if (!acl) return close_with(CONNECTION_TERMINATED, b->connection, out);\n    if (!verifies(acl, &m)) return close_with(HMAC_FAILURE"),
+    ("authType 2", "m.auth_type != 1", "m.auth_type < 1 || m.auth_type > 2"),
+    ("HMACauth without identity is identity 0", "!has(m.seen, 5) || !has(m.auth, 1)", "!has(m.seen, 5)"),
+    ("no commandBytes are empty ones", "|| !has(m.auth, 1) || !has(m.seen, 7)", "|| !has(m.auth, 1)"),
+    ("a wrong frame takes one byte", "counts[0] = input_len;", "counts[0] = 1;"),
+    ("everything is taken", "counts[0] = 9 + m + v;", "counts[0] = input_len;"),
+    ("the value part is not taken", "counts[0] = 9 + m + v;", "counts[0] = 9 + m;"),
+    ("a message of 8,193", "m > MOST_MESSAGE", "m > MOST_MESSAGE + 1"),
+    ("a value of 1,025", "v > MOST_VALUE", "v > MOST_VALUE + 1"),
+    ("a length is judged when it is whole", "    if (head[0] != 0x46 ||",
+     "    if (input_len < 9 && head[0] == 0x46) return MORE;\n    if (head[0] != 0x46 ||"),
+    ("no input closes", "if (input_len == 0) return MORE;", ""),
+    ("CLOSED after MORE", "if (connection[9]) return CLOSED;\n    if (input_len == 0) return MORE;",
+     "if (input_len == 0) return MORE;\n    if (connection[9]) return CLOSED;"),
+    ("the record before the store", "if (used < 0) return STORE_BAD;\n    if (!record_good(record)) return DEVICE_BAD;",
+     "if (!record_good(record)) return DEVICE_BAD;\n    if (used < 0) return STORE_BAD;"),
+    ("a reply buffer of 4,095", "out_len < PLAIN_ROOM", "out_len < PLAIN_ROOM - 1"),
+    ("a store of 129 blocks", "MOST_STORE = 128 * BLOCK", "MOST_STORE = 129 * BLOCK"),
+    ("a block's sum is not looked at", "sum(b) == be32(b + 508)", "1"),
+    ("bytes after a value are not looked at", "zeros(b + 120 + n, 388 - n)", "zeros(b + 504, 4)"),
+    ("byte 7 of a block is not looked at", "b[6] > 6 || b[7]", "b[6] > 6"),
+    ("equal keys in a store", "key_at(store, used)) >= 0) return -1;", "key_at(store, used)) > 0) return -1;"),
+    ("blank blocks are not looked at", "return zeros(store + used * BLOCK, len - used * BLOCK) ? (int)used : -1;", "return (int)used;"),
+    ("a prefix equals the longer key", "return c ? c : (a.n > b.n) - (a.n < b.n);", "return c;"),
+    ("keys are compared with sign", "int c = n ? memcmp(a.at, b.at, n) : 0;",
+     "int c = 0;\n    for (size_t i = 0; i < n && !c; i++) c = (signed char)a.at[i] - (signed char)b.at[i];"),
+    ("a permission bit above 9 in the record", "mask && !(mask & ~PERMISSIONS)", "mask & PERMISSIONS"),
+    ("equal identities in the record", "if (same(acl, acl_at(record, j), 8)) return 0;",
+     "if (same(acl, acl_at(record, j), 7) && acl == acl_at(record, j)) return 0;"),
+    ("TlsRequired is not looked at", "|| (scope[4] && !is_protected)) continue;", "|| (scope[4] && is_protected > 9)) continue;"),
+    ("SETUP needs a scope with an empty value", "if (!key || n == 0 || (offset", "if (n == 0 || (key && offset"),
+    ("an empty scope value fits only below its offset", "n == 0 || (offset + n <= key->n", "(offset + n <= key->n"),
+    ("the connection is judged before the cluster", "else if (h->cluster != be64(b->record)) r->code = VERSION_FAILURE;",
+     "else if (h->connection == be64(connection) && h->cluster != be64(b->record)) r->code = VERSION_FAILURE;"),
+    ("an absent clusterVersion is any", "else if (h->cluster != be64(b->record))", "else if (has(h->seen, 1) && h->cluster != be64(b->record))"),
+    ("a sequence counts only on success", "        connection[10] = 1;\n        put_be64(connection + 16, h->sequence);\n",
+     "        uint8_t was[32];\n        memcpy(was, connection, 32);\n        connection[10] = 1;\n        put_be64(connection + 16, h->sequence);\n        if (!built(h->type)) memcpy(connection, was, 32);\n"),
+    ("the first sequence must be above 0", "(connection[10] && h->sequence <= be64(connection + 16))", "(h->sequence <= be64(connection + 16))"),
+    ("type -1 on every failure", "decodes && built(c.header.type) ? c.header.type - 1 : -1",
+     "decodes && r.code != 7 && built(c.header.type) ? c.header.type - 1 : -1"),
+    ("no field 6 on a failure", "decodes && has(c.header.seen, 4) ?", "decodes && r.code != 6 && has(c.header.seen, 4) ?"),
+    ("field 6 only if not 0", "if (sequence) p = write_number(p, 6, *sequence);", "if (sequence && *sequence) p = write_number(p, 6, *sequence);"),
+    ("GETNEXT gives the key itself", "i += (size_t)found;", ""),
+    ("GETVERSION gives the key", "if (type == GETVERSION) p = write_unless_empty",
+     "if (type == GETVERSION) p = write_bytes(p, 3, block + 8, block[1]), p = write_unless_empty"),
+    ("metadataOnly is not looked at", "if (!v->metadata_only) r->value", "r->value"),
+    ("an empty tag is sent", "p = write_unless_empty(p, 5,", "p = write_bytes(p, 5,"),
+    ("algorithm 0 is sent", "if (block[6]) p = write_number", "p = write_number"),
+    ("startKeyInclusive turned", "if (!g->start_inclusive &&", "if (g->start_inclusive &&"),
+    ("the end is always inclusive", "if (g->end_inclusive &&", "if ("),
+    ("reverse gives the first keys backward", "g->reverse ? --to : from++",
+     "g->reverse ? ((int64_t)(to - from) > left ? (to = from + (size_t)left, --to) : --to) : from++"),
+    ("maxReturned 33", "g->most <= MOST_KEYS", "g->most <= MOST_KEYS + 1"),
+    ("maxReturned 0 means 32", "for (int64_t left = g->most;", "for (int64_t left = g->most ? g->most : 32;"),
+    ("absent range keys are empty", "return has(g->seen, 1) && has(g->seen, 2) &&", "return"),
+    ("an endKey of 65", "g->end.n <= 64", "g->end.n <= 65"),
+    ("an empty range is left out", "    r->number = 2;\n", "    r->number = p == r->part ? 0 : 2;\n"),
+    ("no empty keyValue in PUT's reply", "case PUT: r->code = put(b, &c->key_value, value); break;",
+     "case PUT: r->code = put(b, &c->key_value, value); r->number = 0; break;"),
+    ("NO_SPACE before the version", "if (!version_fits(v, found ? block : NULL)) return VERSION_MISMATCH;\n",
+     "if (!found && b->used * BLOCK == b->len) return NO_SPACE;\n    if (!version_fits(v, found ? block : NULL)) return VERSION_MISMATCH;\n"),
+    ("the last block is never used", "if (b->used * BLOCK == b->len) return NO_SPACE;", "if (b->used * BLOCK + BLOCK >= b->len) return NO_SPACE;"),
+    ("a full store takes no PUT over an old entry", "    if (!found) {\n        if (b->used",
+     "    if (b->used * BLOCK == b->len) return NO_SPACE;\n    if (!found) {\n        if (b->used"),
+    ("force is not looked at", "return v->force || (v->db_version.n", "return (v->db_version.n"),
+    ("a PUT without dbVersion is by force", "return v->force ||", "return v->force || !has(v->seen, 4) ||"),
+    ("DELETE judges the version of a missing key", "return v->force ? SUCCESS : NOT_FOUND;",
+     "return v->force ? SUCCESS : v->db_version.n ? VERSION_MISMATCH : NOT_FOUND;"),
+    ("DELETE leaves what was there", "memset(b->store + (b->used - 1) * BLOCK, 0, BLOCK);", "b->store[(b->used - 1) * BLOCK] = 0;"),
+    ("SETUP without a number sets 0", "if (has(c->setup.seen, 1)) put_be64", "put_be64"),
+    ("SETUP needs a number", "case SETUP: return has(c->body, 3) ?", "case SETUP: return has(c->body, 3) && has(c->setup.seen, 1) ?"),
+    ("GETKEYRANGE is judged by startKey alone", "permits(acl, RANGE_OK, tls, &c->range.start) && permits(acl, RANGE_OK, tls, &c->range.end)",
+     "permits(acl, RANGE_OK, tls, &c->range.start)"),
+    ("NOOP needs READ", "    case NOOP:\n    case FLUSHALLDATA: return 1;\n    case PUT:",
+     "    case FLUSHALLDATA: return 1;\n    case NOOP: return permits(acl, READ_OK, tls, NULL);\n    case PUT:"),
+    ("GETLOG is answered like NOOP", "    case NOOP:\n    case FLUSHALLDATA: return 1;\n    default: return 0;",
+     "    case NOOP:\n    case 24:\n    case FLUSHALLDATA: return 1;\n    default: return 0;"),
+    # the four boxes of document 01
+    ("always NOT_AUTHORIZED", "if (authorized(acl, connection[8], c)) perform", "if (0) perform"),
+    ("SUCCESS to all", "if (decodes) judge(b, acl, &c, value, &r);", "if (decodes) judge(b, acl, &c, value, &r);\n    r.code = SUCCESS;"),
+    ("stores nothing", "    write_block(block, v, value);\n", ""),
+    ("obeys the first message of a connection, then echoes SUCCESS", "if (decodes) judge(b, acl, &c, value, &r);",
+     "if (decodes && !b->connection[10]) judge(b, acl, &c, value, &r);\n    else r.code = SUCCESS;"),
+    # what the lent bytes show
+    ("the rest of the reply buffer is cleared", "    return 9 + n + value.n;",
+     "    memset(out + 9 + n + value.n, 0, 4096 - 9 - n - value.n);\n    return 9 + n + value.n;"),
+    ("counts are written on a refusal", "if (out_len < PLAIN_ROOM) return OUT_SHORT;",
+     "counts[0] = counts[1] = 0;\n    if (out_len < PLAIN_ROOM) return OUT_SHORT;"),
+    ("the reply buffer is written on a refusal", "if (input_len < 9 + m + v) return MORE;", "if (input_len < 9 + m + v) { out[0] = 0x46; return MORE; }"),
+    ("closing forgets the sequence", "    connection[9] = 1;\n", "    connection[9] = 1;\n    connection[10] = 0;\n"),
+    ("byte 8 of the connection is put right", "        connection[10] = 1;\n", "        connection[10] = 1;\n        connection[8] = connection[8] != 0;\n"),
+    ("SETUP clears what the record doesn't use", "if (has(c->setup.seen, 1)) put_be64(b->record, c->setup.cluster);",
+     "if (has(c->setup.seen, 1)) put_be64(b->record, c->setup.cluster), memset(b->record + 9, 0, 7);"),
+    ("the input is written", "    uint8_t head[9] = {0};\n", "    uint8_t head[9] = {0};\n    ((uint8_t *)input)[input_len - 1] ^= 1;\n"),
+    ("a byte after the input is read", "    if (input_len < 9 + m + v) return MORE;",
+     "    if (input_len < 9 + m + v || ((volatile const uint8_t *)input)[input_len] & 0) return MORE;"),
+    ("a byte after the store is read", "    if (used < 0) return STORE_BAD;\n",
+     "    if (used < 0 || ((volatile uint8_t *)store)[store_len] & 0) return STORE_BAD;\n"),
+    ("a byte before the reply buffer is written", "    out[0] = 0x46;\n", "    out[0] = 0x46;\n    out[-1] = 0;\n"),
+    ("it never comes back", "if (head[0] != 0x46 ||", "while (m == 8192 && v == 1024 && input_len > 9000);\n    if (head[0] != 0x46 ||"),
+    ("it counts its calls", "    if (connection[9]) return CLOSED;\n", "    static int calls;\n    if (connection[9] || ++calls == 5000) return CLOSED;\n"),
+    # the other calls
+    ("format takes a key of 65", "if (key_len < 1 || key_len > 64) return KEY_BAD;", "if (key_len < 1 || key_len > 65) return KEY_BAD;"),
+    ("format judges the key first", "if (!store_length_good(store_len)) return STORE_BAD;\n    if (key_len < 1 || key_len > 64) return KEY_BAD;",
+     "if (key_len < 1 || key_len > 64) return KEY_BAD;\n    if (!store_length_good(store_len)) return STORE_BAD;"),
+    ("format keeps old blocks", "memset(store, 0, store_len);", "store[0] = 0;"),
+    ("format keeps old bytes of the record", "memset(record, 0, PLAIN_RECORD);", "memset(record, 0, 100);"),
+    ("connect keeps old bytes", "memset(connection, 0, PLAIN_CONNECTION);", "memset(connection, 0, 24);"),
+    ("connect keeps the flag as it came", "connection[8] = protected_ != 0;", "connection[8] = protected_;"),
+    ("find writes where it finds nothing", "if (!is_at(store, (size_t)used, i, k)) return 1;",
+     "if (!is_at(store, (size_t)used, i, k)) { part[1] = 0; return 1; }"),
+    ("find gives the key's place", "part[0] = i * BLOCK + 120;", "part[0] = i * BLOCK + 8;"),
+    ("find looks at the key first", "    int used = check(store, store_len);\n    if (used < 0) return 2;\n",
+     "    if (key_len < 1 || key_len > 64) return 1;\n    int used = check(store, store_len);\n    if (used < 0) return 2;\n"),
+]
+
+NUMBER = r"(?<![\w.])(0x[0-9a-f]+|\d+)(u?)(?![\w.])"
+OTHERS = [(r"<=", "<"), (r">=", ">"), (r"(?<![<>-])<(?![<=])", "<="), (r"(?<![<>-])>(?![>=])", ">="), (r"==", "!="), (r"!=", "=="), (r"&&", "||"),
+          (r"\|\|", "&&"), (r"!(?!=)", "")]
+
+
+def every(text):
+    """Each small edit of a C source, but for comments and lines that include: a name, and the text with it."""
+    hidden = re.sub(r"/\*.*?\*/|^#include.*?$", lambda m: re.sub(r"[^\n]", " ", m[0]), text, flags=re.S | re.M)
+    for m in re.finditer(NUMBER, hidden):
+        for step in (1, -1):
+            n = int(m[1], 0) + step
+            if n >= 0:
+                yield place(text, m), f"{m[0]} becomes {n}", text[:m.start()] + f"{n}{m[2]}" + text[m.end():]
+    for pattern, other in OTHERS:
+        for m in re.finditer(pattern, hidden):
+            yield place(text, m), f"{m[0]} becomes {other or 'nothing'}", text[:m.start()] + other + text[m.end():]
+
+
+def place(text, m):
+    line = text.count("\n", 0, m.start())
+    return f"line {line + 1}: {text.splitlines()[line].strip()}"
+
+
+def tape(calls):
+    """The kit's calls in order, with what the model says of each: nothing in them depends on the box."""
+    plan, made = run.Plan(1, calls, None), []
+    for part in run.PARTS:
+        index, count = 0, 0
+        while (playing := plan.play(part, index)) is not None and not plan.enough(part, count):
+            after = None
+            while True:
+                try:
+                    call, _ = playing.send(after)
+                except StopIteration:
+                    break
+                after = run.document.run(call)
+                made.append((part, index, call, after))
+                count += 1
+            index += 1
+    return plan, made
+
+
+def caught(library, made):
+    """The place of the first call on which a library differs; a string where it ended the process; None where it never differs."""
+    def work():
+        its = box.Library(library, "plain_")
+        signal.alarm(20)
+        return next((n for n, (_, _, call, after) in enumerate(made) if its.run(call) != after), None)
+    return run.apart(work)
+
+
+def build(sources, changed, text, name):
+    """The library with one source changed, or None where it doesn't compile."""
+    PLACE.mkdir(parents=True, exist_ok=True)
+    file, library = PLACE / "changed.c", PLACE / f"{name}.so"
+    file.write_text(text)
+    others = [str(source) for source in sources if source != changed]
+    done = subprocess.run(["cc", "-std=c99", "-w", "-shared", "-fPIC", "-O0", f"-I{changed.parent}", "-o", str(library), str(file), *others],
+                          capture_output=True)
+    return library if done.returncode == 0 else None
+
+
+def edits(sources):
+    """The faults of the list: the source, a name, and its text with the edit."""
+    for name, old, new in FAULTS:
+        found = [source for source in sources if source.read_text().count(old) == 1]
+        if not found:
+            sys.exit(f"'{name}': its text is not exactly once in a source: {old}")
+        yield found[0], "", name, found[0].read_text().replace(old, new)
+
+
+def main():
+    p = argparse.ArgumentParser(usage=__doc__)
+    p.add_argument("--every", action="store_true")
+    p.add_argument("--source", nargs="+", type=pathlib.Path, default=[TOP / "bench" / "box.c", TOP / "bench" / "sha1.c"])
+    p.add_argument("--slice", default="0/1", help=argparse.SUPPRESS)
+    given = p.parse_args()
+    started = time.monotonic()
+    plan, made = tape(4000)
+    if caught(build(given.source, given.source[0], given.source[0].read_text(), "plain"), made) is not None:
+        sys.exit("the plain box itself differs from the model: run.py --library .. --prefix plain_ says where")
+    tried = list(edits(given.source)) if not given.every else [(source, *edit) for source in given.source for edit in every(source.read_text())]
+    first, step = map(int, given.slice.split("/"))
+    counts = collections.Counter()
+    for source, where, name, text in tried[first::step]:
+        library = build(given.source, source, text, f"mutant{first}")
+        how = "doesn't compile" if library is None else caught(library, made)
+        kind = "not caught" if how is None else "doesn't compile" if library is None else "ended the process" if isinstance(how, str) else f"caught by {made[how][0]}"
+        counts[kind] += 1
+        if not given.every or how is None:
+            words = plan.name(*made[how][:2]).replace("\n ", " in") if isinstance(how, int) else how or "NOT CAUGHT"
+            print(f"{name}{' in ' + where if where else ''}: {words}", flush=True)
+    print(f"mutants: {sum(counts.values())} wrong boxes, " + ", ".join(f"{number} {kind}" for kind,
+                                                                       number in sorted(counts.items())) + f", {time.monotonic() - started:.0f} s")
+    return 1 if counts["not caught"] or (counts["doesn't compile"] and not given.every) else 0
+
+
+if __name__ == "__main__":
+    sys.exit(main())

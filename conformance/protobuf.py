@@ -1,0 +1,103 @@
+"""Replies read and written again by Google's protobuf (protoc, Debian's protobuf-compiler), from a rendering of document 003 (tests/kinetic.proto).
+
+What protoc reads in a reply must be what the model reads in it, with document 003's names; and what protoc writes of that (fields ascending, shortest
+varints) must be the reply's own bytes again.
+"""
+import ast
+import pathlib
+import shutil
+import subprocess
+
+import model
+
+HERE = pathlib.Path(__file__).resolve().parent
+
+TYPES = {number - 1: name + "_RESPONSE" for name, number in model.TYPES.items()} | {-1: "INVALID_MESSAGE_TYPE"}
+CODES = {code: name for name, code in model.STATUS.items()}
+ALGORITHMS = {1: "SHA1", 2: "SHA2", 3: "SHA3", 4: "CRC32C", 5: "CRC64", 6: "CRC32"}
+AUTH_TYPES = {1: "HMACAUTH", 3: "UNSOLICITEDSTATUS"}
+
+
+def installed():
+    if not shutil.which("protoc"):
+        for step in ["update"], ["install", "-y", "protobuf-compiler"]:
+            subprocess.run(["apt-get", "-q", *step], check=True, stdout=subprocess.DEVNULL)
+
+
+def protoc(how, data):
+    told = subprocess.run(["protoc", f"--proto_path={HERE}", f"--proto_path={HERE.parent / 'tests'}", f"--{how}=Replies", "replies.proto"], input=data,
+                          stdout=subprocess.PIPE, stderr=subprocess.PIPE)
+    if told.returncode != 0:
+        raise ValueError(told.stderr.decode(errors="replace").strip() or f"protoc --{how} ended with {told.returncode}")
+    return told.stdout
+
+
+def lines_read(text):
+    """protoc's text as a list of (name, content), a content being a word of the text or again a list."""
+    found = []
+    inside = [found]
+    for line in text.decode().splitlines():
+        line = line.strip()
+        if line == "}":
+            inside.pop()
+        elif line.endswith("{"):
+            inner = []
+            inside[-1].append((line[:-1].strip(), inner))
+            inside.append(inner)
+        else:
+            name, _, content = line.partition(": ")
+            inside[-1].append((name, ast.literal_eval("b" + content) if content.startswith('"') else content))
+    return found
+
+
+def expected(reply):
+    """What is in a reply, with document 003's names, as the model reads it: its message, its command."""
+    told = model.decode("Message", model.framed(reply)[1])
+    command = model.decode("Reply", told[7])
+    header, body, auth = command[1], command.get(2), told.get(5)
+    message = [("authType", AUTH_TYPES[told[4]])]
+    if auth is not None:
+        message.append(("hmacAuth", [("identity", str(auth[1])), ("hmac", auth[2])]))
+    message.append(("commandBytes", told[7]))
+    shown = [("connectionID", str(header[3]))]
+    shown += [("ackSequence", str(header[6]))] if 6 in header else []
+    shown += [("messageType", TYPES[header[7]])] if 7 in header else []
+    parts = [("header", shown)]
+    if body is not None:
+        parts.append(("body", [("keyValue", pair_shown(body[1])) if 1 in body else ("range", [("keys", key) for key in body[2].get(8, [])])]))
+    return message, parts + [("status", [("code", CODES[command[3][1]])])]
+
+
+def pair_shown(pair):
+    names = {3: "key", 4: "dbVersion", 5: "tag"}
+    return [(names[n], pair[n]) for n in (3, 4, 5) if n in pair] + ([("algorithm", ALGORITHMS[pair[6]])] if 6 in pair else [])
+
+
+def batch(replies):
+    """What is wrong with the first reply of a list that protobuf reads or writes otherwise: the reply and words; None where there is none."""
+    data = b"".join(model.field(1, told) + model.field(2, model.decode("Message", told)[7]) for told in (model.framed(reply)[1] for reply in replies))
+    text = protoc("decode", data)
+    found = lines_read(text)
+    messages, commands = ([content for name, content in found if name == wanted] for wanted in ("message", "command"))
+    for reply, message, command in zip(replies, messages, commands):
+        if (message, command) != expected(reply):
+            return reply, f"protoc reads {(message, command)}, the model {expected(reply)}"
+    if len(messages) != len(replies) or len(commands) != len(replies):
+        return replies[0], f"protoc reads {len(messages)} messages and {len(commands)} commands in {len(replies)} replies"
+    again = [content for _, _, content in model.fields_of(protoc("encode", text))]
+    for n, reply in enumerate(replies):
+        told = model.framed(reply)[1]
+        if (again[n], again[len(replies) + n]) != (told, model.decode("Message", told)[7]):
+            return reply, f"protoc writes {again[n].hex()} with the command {again[len(replies) + n].hex()}, the box {told.hex()}"
+    return None
+
+
+def different(replies):
+    """As `batch`; where protoc refuses all of them, the one it refuses."""
+    try:
+        return batch(replies)
+    except (ValueError, KeyError) as why:
+        if len(replies) == 1:
+            return replies[0], str(why)
+        half = len(replies) // 2
+        return different(replies[:half]) or different(replies[half:]) or (replies[0], str(why))

@@ -1,0 +1,222 @@
+"""The smallest case that can be found on which a box still differs from the model: calls before it are dropped, then entries, ACLs, scopes, fields at any
+depth (signed again where the message was), and bytes, as long as the difference stays."""
+import time
+
+import model
+from messages import INSIDE, SIGNED, Field, Fixed, encoded, levels, replaced, signed
+
+TRIALS, SECONDS = 4000, 20
+
+
+class Enough(Exception):
+    pass
+
+
+def shrunk(calls, differs):
+    """A list of calls of which the last differs, and what `differs` says of such a list; a smaller one."""
+    end, left = time.monotonic() + SECONDS, [TRIALS]
+
+    def still(calls):
+        left[0] -= 1
+        if left[0] < 0 or time.monotonic() > end:
+            raise Enough
+        return differs(calls)
+
+    best = [calls]
+    try:
+        fewer(best, still)
+        smaller(best, still)
+    except Enough:
+        pass
+    return best[0]
+
+
+def fewer(best, still):
+    """Calls before the last dropped: all, then the first half, then one by one."""
+    if len(best[0]) > 1 and still(best[0][-1:]):
+        best[0] = best[0][-1:]
+        return
+    size = len(best[0]) // 2
+    while size:
+        at = 0
+        while at < len(best[0]) - 1:
+            tried = best[0][:at] + best[0][min(at + size, len(best[0]) - 1):]
+            if still(tried):
+                best[0] = tried
+            else:
+                at += size
+        size //= 2
+
+
+def smaller(best, still):
+    """The last call made smaller, greedily, until nothing helps."""
+    again = True
+    while again:
+        again = False
+        for step in STEPS:
+            while True:
+                for candidate in step(best[0][-1]):
+                    if candidate != best[0][-1] and still(best[0][:-1] + [candidate]):
+                        best[0] = best[0][:-1] + [candidate]
+                        again = True
+                        break
+                else:
+                    break
+
+
+# ---- Candidates: each step gives calls that are smaller than the one given, the boldest first
+
+def plainer(call):
+    if call.null:
+        yield call.changed(null=False)
+    if call.given.get("room", 0) > model.ROOM:
+        yield call.changed(room=model.ROOM)
+    for what in "key", "text":
+        if what in call.given:
+            yield from (call.changed(**{what: data}) for data in shorter(call[what]))
+    if "connection" in call.given and call.name == "answer":
+        its = model.connection_of(call["connection"])
+        for last, protected in (None, False), (its.last, False), (None, its.protected), (its.last, its.protected):
+            data = model.connect(its.number, protected)
+            data = data[:9] + bytes([its.closed, last is not None]) + data[11:16] + model.word(last or 0) + data[24:]
+            if sum(map(bool, data)) < sum(map(bool, call["connection"])):
+                yield call.changed(connection=data)
+
+
+def stores(call):
+    store = call.given.get("store")
+    if store is None:
+        return
+    entries = model.entries_of(store)
+    if entries is None:
+        yield from (call.changed(store=store[:at] + store[at + 512:]) for at in range(0, len(store), 512) if len(store) > 512)
+        yield from (call.changed(store=store[:at] + bytes(512) + store[at + 512:]) for at in range(0, len(store), 512) if any(store[at:at + 512]))
+        return
+    blank = len(store) // 512 - len(entries)
+    for count in {0, 1, blank - 1} & set(range(blank)):
+        if entries or count:
+            yield call.changed(store=model.store_of(entries, (len(entries) + count) * 512))
+    for size in (len(entries) // 2, 1):
+        for at in range(0, len(entries) if size else 0, size or 1):
+            yield call.changed(store=model.store_of(entries[:at] + entries[at + size:], len(store)))
+    for n, entry in enumerate(entries):
+        for plain in (model.Entry(entry.key), model.Entry(entry.key, entry.version),
+                      model.Entry(entry.key, entry.version, entry.tag, entry.algorithm, entry.value[:1])):
+            if plain != entry:
+                yield call.changed(store=model.store_of(entries[:n] + [plain] + entries[n + 1:], len(store)))
+
+
+def records(call):
+    record = call.given.get("record")
+    table = model.table_of(record) if record is not None else None
+    if table is None:
+        return
+    plain = model.record_of(table)
+    if plain != record:
+        yield call.changed(record=plain)
+    for n, acl in enumerate(table.acls):
+        rest = table.acls[:n], table.acls[n + 1:]
+        others = [()] if len(table.acls) > 1 else []
+        others += [(model.Acl(acl.identity, acl.key, acl.scopes[:m] + acl.scopes[m + 1:]),) for m in range(len(acl.scopes)) if len(acl.scopes) > 1]
+        for m, scope in enumerate(acl.scopes):
+            plainer_scopes = [model.Scope(frozenset({min(scope.permissions)})), model.Scope(scope.permissions)]
+            for other in plainer_scopes + [model.Scope(scope.permissions, scope.offset, scope.value)]:
+                if other != scope:
+                    others.append((model.Acl(acl.identity, acl.key, acl.scopes[:m] + (other,) + acl.scopes[m + 1:]),))
+        for other in others:
+            yield call.changed(record=model.record_of(model.Table(table.cluster, rest[0] + other + rest[1])))
+
+
+def shorter(data):
+    """Bytes with parts left out: all, halves, quarters, .. single bytes."""
+    size = len(data)
+    while size:
+        for at in range(0, len(data), size):
+            yield data[:at] + data[at + size:]
+        size = size // 2 if len(data) <= 256 or size > 16 else 0
+
+
+def inputs(call):
+    data = call.given.get("input")
+    if not data:
+        return
+    how, message, value = model.framed(data)
+    if how != "WHOLE":
+        yield from (call.changed(input=less) for less in shorter(data))
+        return
+    whole = 9 + len(message) + len(value)
+    if len(data) > whole:
+        yield call.changed(input=data[:whole])
+        yield call.changed(input=data[:whole + 1])
+    yield from (call.changed(input=model.frame(message, less) + data[whole:]) for less in shorter(value))
+    items, key = signed_tree(call, message)
+    for other in smaller_trees(items):
+        yield call.changed(input=model.frame(signed(other, key), value) + data[whole:])
+
+
+def signed_tree(call, message):
+    """A message as a tree, whose hmac is made again where it was right, and the key."""
+    items, told, table = loose(message, "Message"), model.decoded("Message", message), model.table_of(call["record"])
+    if told is None or table is None or 5 not in told or 7 not in told:
+        return items, b""
+    acl = next((acl for acl in table.acls if acl.identity == told[5].get(1)), None)
+    if acl is None or told[5].get(2) != model.hmac_of(acl.key, told[7]):
+        return items, b""
+    place = next(n for n, item in enumerate(items) if isinstance(item, Field) and item.number == 5)
+    auth = [item._replace(content=SIGNED) if isinstance(item, Field) and item.number == 2 else item for item in items[place].content]
+    return items[:place] + [items[place]._replace(content=auth)] + items[place + 1:], acl.key
+
+
+def loose(data, kind):
+    """Bytes as a tree, whatever they are: what can't be read stands as it is at the end."""
+    items, at = [], 0
+    try:
+        while at < len(data):
+            item, at = loose_field(data, at, kind)
+            items.append(item)
+    except model.Refused:
+        items.append(data[at:])
+    return items if encoded(items) == data else [data]
+
+
+def loose_field(data, start, kind):
+    tag, at = model.read_varint(data, start)
+    number, wire, long_tag = tag >> 3, tag & 7, at - start - len(model.varint(tag))
+    if number == 0 or tag >= 1 << 32 or wire not in (0, 1, 2, 5):
+        raise model.Refused
+    if wire in (1, 5):
+        size = 8 if wire == 1 else 4
+        if len(data) - at < size:
+            raise model.Refused
+        return Field(number, Fixed(data[at:at + size]), long_tag), at + size
+    n, end = model.read_varint(data, at)
+    long_form = end - at - len(model.varint(n))
+    if wire == 0:
+        return Field(number, n - model.WORD if n >> 63 else n, long_tag, long_form), end
+    if len(data) - end < n:
+        raise model.Refused
+    content, inner = data[end:end + n], INSIDE.get((kind, number))
+    return Field(number, loose(content, inner) if inner else content, long_tag, long_form), end + n
+
+
+def smaller_trees(items):
+    for _, level, way in list(levels(items)):
+        for place, item in enumerate(level):
+            for other in [[]] + [[one] for one in smaller_items(item)]:
+                yield replaced(items, way, level[:place] + other + level[place + 1:])
+
+
+def smaller_items(item):
+    if isinstance(item, bytes):
+        yield from shorter(item)
+        return
+    if item.long_tag or item.long_form:
+        yield item._replace(long_tag=0, long_form=0)
+    if isinstance(item.content, int) and item.content not in (0, 1):
+        yield item._replace(content=0)
+        yield item._replace(content=1)
+    elif isinstance(item.content, bytes) and not isinstance(item.content, Fixed):
+        yield from (item._replace(content=less) for less in shorter(item.content))
+
+
+STEPS = [plainer, stores, records, inputs]
