@@ -15,7 +15,7 @@
 #endif
 uint32_t fields_put(const uint8_t *command, size_t n, uint64_t held[16]);
 
-enum { ROUNDS = 400, REPEAT = 4, ENTRIES = 128, STORE = ENTRIES * 512, KEY = 20 };
+enum { ROUNDS = 4000, REPEAT = 4, ENTRIES = 128, STORE = ENTRIES * 512, KEY = 20 };
 
 /* A call to measure. */
 typedef struct {

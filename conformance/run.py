@@ -15,6 +15,7 @@ Ends with 0 where nothing differs; else prints the smallest case that it can fin
 """
 import argparse
 import collections
+import itertools
 import mmap
 import os
 import pathlib
@@ -88,7 +89,23 @@ class Plan:
         return [call for n in range(index) for call in self.case(part, n)]
 
 
+    def sides(self, part, index, step, wanted, got):
+        """Where a row or a sample says by itself what is wanted: what it finds wrong in the model's answer, and in the box's."""
+        made, after = self.play(part, index), None
+        for _ in range(step):
+            after = document.run(made.send(after)[0])
+        held = made.send(after)[1]
+        words = []
+        for answer in wanted, got:
+            try:
+                words.append(held(answer) or "right")
+            except Exception as why:
+                words.append(f"not to be read ({why!r})")
+        return f"the {'row' if part == 'boundaries' else 'sample'} itself finds the model's answer {words[0]}; the box's: {words[1]}"
+
+
 document = box.Model()
+MODEL = "the model"
 
 
 def sampled(case):
@@ -101,12 +118,9 @@ def sampled(case):
         yield call, held
 
 
-class Found(Exception):
-    """A difference: the part, its row or session, the call, and words where box and model agree and something else is wrong."""
-
-
 class Work:
-    """The run itself. `note` is told where it is, so that it is known if the library ends the process."""
+    """The run itself. `note` is told where it is, so that it is known if the library ends the process. What it finds: the part, its row or session, the
+    call, and MODEL or, where box and model agree, what else is wrong."""
 
     def __init__(self, plan, its, note=lambda *where: None):
         self.plan, self.its, self.note = plan, its, note
@@ -126,8 +140,8 @@ class Work:
         self.flush()
 
     def session(self, part, index, playing):
-        after, step = None, 0
-        for step in range(1 << 30):
+        after = None
+        for step in itertools.count():
             try:
                 call, held = playing.send(after)
             except StopIteration:
@@ -135,7 +149,7 @@ class Work:
             self.note(part, index, step)
             after, got = document.run(call), self.its.run(call)
             self.counts[part] += 1
-            words = held(got) if got == after else "model"
+            words = held(got) if got == after else MODEL
             if words:
                 self.found.append((part, index, step, words))
                 return
@@ -271,13 +285,15 @@ def explain(plan, its, found, again):
         return last_of(its, calls) != document.run(calls[-1])
 
     small = calls = plan.case(part, index, step)
-    if words != "model" and not differs(calls):
+    if words != MODEL and not differs(calls):
         print(f"  box and model agree, but: {words}")
     else:
         if not differs(calls):
             print("  it doesn't differ when it is played alone: the box keeps something from one call to another")
             calls = plan.before(part, index) + calls
         small = shrink.shrunk(calls, differs) if differs(calls) else small
+    if part not in SHARES:
+        print("  " + plan.sides(part, index, step, document.run(calls[-1]), last_of(its, calls)))
     call = small[-1]
     got, wanted = last_of(its, small), document.run(call)
     print(f"the smallest case found ({len(small)} call{'s' * (len(small) > 1)}):")
