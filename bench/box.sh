@@ -8,7 +8,7 @@ rt staticlib fields_export >/dev/null
 if [ "${PLAIN_TWICE:-}" ]; then
     side=-DPLAIN_TWICE
 else
-    rt staticlib abi >/dev/null
+    tests/staticlib
     side=target/staticlib/libabi.a
     clang -O2 -Wall -Wextra -o target/bench/stack bench/stack.c $side -lpthread
     target/bench/stack

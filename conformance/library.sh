@@ -2,6 +2,6 @@
 # Builds the proved calls as a shared library, target/conformance/libridgeladle.so.
 set -eu
 cd "$(dirname "$0")/.."
-rt staticlib abi >/dev/null
+tests/staticlib
 mkdir -p target/conformance
 cc -shared -o target/conformance/libridgeladle.so -Wl,--whole-archive target/staticlib/libabi.a -Wl,--no-whole-archive

@@ -3,7 +3,7 @@
 set -eu
 cd "$(dirname "$0")/.."
 command -v clang >/dev/null || apt-get -q install -y clang >/dev/null
-rt staticlib abi >/dev/null
+tests/staticlib
 mkdir -p target/examples
 for cc in gcc clang; do
     "$cc" -std=c99 -Wall -Wextra -Wpedantic -Werror -O2 -Iinclude -o "target/examples/box_$cc" examples/box.c target/staticlib/libabi.a

@@ -9,7 +9,7 @@ fi
 if [ "${PLAIN_TWICE:-}" ]; then
     side=-DPLAIN_TWICE
 else
-    rt staticlib abi >/dev/null
+    tests/staticlib
     side=target/staticlib/libabi.a
 fi
 mkdir -p target/fuzz/corpus target/fuzz/found

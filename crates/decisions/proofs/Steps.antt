@@ -33,14 +33,12 @@ use Rattle.protocol.specs.Box.{box, aclAt, decide, invalid, judged, sequenceOf,
 use Rattle.requests.specs.declared.Body.{Body}
 use Rattle.requests.specs.declared.Header.{Header}
 use Rattle.requests.specs.Views.{BodyLies, bodyView, headerView}
+use Rattle.encoding.specs.Basics.{never}
 use Rattle.security.proofs.Scopes.{slice-at}
 use Rattle.judgement.specs.Given.{Heard, Keys, headerFault, headerThere, idIn, sequenceIn}
 use Rattle.judgement.specs.Steps.{judge-by, rest, sequenceHeard, typeIn}
 use Rattle.sending.specs.declared.Address.{Address}
 use Rattle.sending.specs.Sent.{Sent, replied}
-
-never : {A : Type 0} → _≡_ {A = ℕ} 0 1 → A
-never z = absurd (omega arith)
 
 -- an equal result is sent alike
 sent-as : (a : Address) (by : List ℕ) (x y : Result) {n : ℕ} {out out' : List ℕ} {t : State} → x ≡ y → Sent (replied a by x) n out out' t → Sent (replied a by y) n out out' t

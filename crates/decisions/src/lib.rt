@@ -24,11 +24,11 @@ ghost use Rattle.lookups.specs.Views.{numView};
 ghost use Rattle.protocol.specs.State as state;
 ghost use Rattle.protocol.specs.State.{lent};
 ghost use Rattle.protocol.specs.Reading.{decoded};
-ghost use Rattle.protocol.specs.Judge.{step8, step9, step10, judge};
+ghost use Rattle.protocol.specs.Judge.{judge};
 ghost use Rattle.protocol.specs.Operation.{askedBy};
 ghost use Rattle.protocol.specs.Answer.{respond};
 ghost use Rattle.protocol.specs.Box.{box, told};
-ghost use Rattle.judgement.specs.Steps.{rest};
+ghost use Rattle.judgement.specs.Steps.{served, rest};
 ghost use Rattle.requests.specs.Views.{BodyLies, bodyView};
 ghost use Rattle.connections.specs.Means.{connectionOf};
 ghost use Rattle.decisions.specs.Commands.{commandIn};
@@ -55,7 +55,7 @@ fn serve(
     a: Address,
 ) -> usize
     requires { ⌜ (4096 ≤ length (now out)) × (length (now by) ≤ 64) × Good (now store) × Placed (now device) place × BodyLies (now s) b ⌝ }
-    ensures { λ r. ⌜ ((c : state.Connection) → c .protected ≡ protected → Sent (replied a (now (by .entry)) (step8 (lent (now (store .entry)) (now (device .entry)) c) o (bodyView (now (s .entry)) b) (now (value .entry)) (step9 (lent (now (store .entry)) (now (device .entry)) c) (aclOf (tableOf (now (device .entry))) place) o (bodyView (now (s .entry)) b) (step10 (lent (now (store .entry)) (now (device .entry)) c) o (bodyView (now (s .entry)) b) (now (value .entry)))))) r (now (out .entry)) (now (out .exit)) (lent (now (store .exit)) (now (device .exit)) c)) ⌝ }
+    ensures { λ r. ⌜ ((c : state.Connection) → c .protected ≡ protected → Sent (replied a (now (by .entry)) (served (lent (now (store .entry)) (now (device .entry)) c) (aclOf (tableOf (now (device .entry))) place) o (bodyView (now (s .entry)) b) (now (value .entry)))) r (now (out .entry)) (now (out .exit)) (lent (now (store .exit)) (now (device .exit)) c)) ⌝ }
 {
     let fault = bodies::body_fault(o, s, b, value.len());
     if fault != 0 {

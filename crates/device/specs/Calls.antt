@@ -19,8 +19,9 @@ use Rattle.access.specs.Record.{tableOf, bytesAt, Placed}
 use Rattle.access.specs.Laws.{aclOf-at, place-of, length-bytesAt}
 use Rattle.access.specs.declared.Found.{Found}
 use Rattle.access.specs.declared.Found.the-variants.{At, Nobody}
+use Rattle.encoding.specs.Basics.{never}
 use Rattle.writers.specs.Pushed.{Starts}
-use Rattle.lookups.specs.declared.parts.Part.{Part}
+use Rattle.security.proofs.Scopes.{slice-at}
 use Rattle.lookups.specs.Views.{bytesAt as bytesIn}
 use Rattle.requests.specs.declared.message.Sealed.{Sealed}
 use Rattle.requests.specs.Messages.{sealedView}
@@ -38,17 +39,12 @@ use Rattle.device.specs.Means.{Called, refusing, answering, afterwards}
 pub sent-as : {x y : Reply State} {n : ℕ} {out out' : List ℕ} {after : State} → x ≡ y → Sent y n out out' after → Sent x n out out' after
 sent-as {n = n} {out} {out'} {after} e h = subst (λ (x : Reply State). Sent x n out out' after) (sym e) h
 
--- a part of a message as the code cuts it
-pub part-is : (m : List ℕ) (p : Part) → bytesIn m p ≡ take (p .start + p .len - p .start) (drop (p .start) m)
-unfolding bytesIn
-part-is m p = let e : p .len ≡ p .start + p .len - p .start = omega arith in ap (λ (n : ℕ). take n (drop (p .start) m)) e
-
 -- what step 1 reads
 pub sealed : (m : List ℕ) (r : Sealed) → sealedView m r ≡ readMessage m → r .ok ≡ true
     → readMessage m ≡ some (envelope (r .identity) (take (r .hmac .start + r .hmac .len - r .hmac .start) (drop (r .hmac .start) m)) (take (r .command .start + r .command .len - r .command .start) (drop (r .command .start) m)))
 sealed m r e ok =
     sym e ∙ ap (λ (b : Bool). guard b (envelope (r .identity) (bytesIn m (r .hmac)) (bytesIn m (r .command)))) ok
-    ∙ ap₂ (λ (x y : List ℕ). some (envelope (r .identity) x y)) (part-is m (r .hmac)) (part-is m (r .command))
+    ∙ ap₂ (λ (x y : List ℕ). some (envelope (r .identity) x y)) (sym (slice-at m (r .hmac))) (sym (slice-at m (r .command)))
 
 pub unsealed : (m : List ℕ) (r : Sealed) → sealedView m r ≡ readMessage m → r .ok ≡ false → readMessage m ≡ none
 unsealed m r e ok = sym e ∙ ap (λ (b : Bool). guard b (envelope (r .identity) (bytesIn m (r .hmac)) (bytesIn m (r .command)))) ok
@@ -89,9 +85,6 @@ module _ (s : State) (v : List ℕ) where
   pub sent-by : (i : ℕ) (c : List ℕ) {by key : List ℕ} {n : ℕ} {out out' : List ℕ} {after : State} → by ≡ key
       → Sent (respond box s v (decoded i by (listed Command c))) n out out' after → Sent (respond box s v (decoded i key (listed Command c))) n out out' after
   sent-by i c {n = n} {out} {out'} {after} e h = subst (λ (k : List ℕ). Sent (respond box s v (decoded i k (listed Command c))) n out out' after) e h
-
-never : {A : Type 0} → _≡_ {A = ℕ} 0 1 → A
-never z = absurd (omega arith)
 
 -- the comparison of step 2 is that of the signature part
 pub hmac-right : (key c sig : List ℕ) → length key ≤ 64 → length c ≤ 8192 → sameBytes sig (hmac key c) ≡ signature.verified key c sig

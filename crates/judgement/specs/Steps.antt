@@ -9,13 +9,18 @@ use Rattle.wire.specs.Reader.{choose}
 use Rattle.access.specs.Table as access
 use Rattle.protocol.specs.State.{State, table, accepted}
 use Rattle.protocol.specs.Command.{Header, Body, Command, orElse}
+use Rattle.protocol.specs.declared.Operation.{Operation}
 use Rattle.protocol.specs.Operation.{askedBy}
 use Rattle.protocol.specs.Judge.{Result, fails, bothThere, step4, step5, step6, step7, step8, step9, step10, judge}
 use Rattle.judgement.specs.Given.{inOrder, headerThere, headerFault}
 
+-- steps 8 to 10 of an operation
+abbrev pub served : State → access.Acl → Operation → Body → List ℕ → Result
+served s a o b v = step8 s o b v (step9 s a o b (step10 s o b v))
+
 -- steps 7 to 10, the sequence accepted
 abbrev pub rest : State → access.Acl → Option ℕ → Body → List ℕ → Result
-rest s a type b v = step7 s (askedBy type) (λ o. step8 s o b v (step9 s a o b (step10 s o b v)))
+rest s a type b v = step7 s (askedBy type) (λ o. served s a o b v)
 
 abbrev pub sequenceHeard : Option Header → ℕ
 sequenceHeard none = 0

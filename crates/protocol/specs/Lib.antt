@@ -28,3 +28,4 @@ pub mod Demand3Shown
 pub mod Format
 pub mod FormatLaws
 pub mod Refusals
+pub mod Puts

@@ -1,4 +1,4 @@
-// The calls of `signature` for C, as the benchmark links them.
+// The calls of `signature` for C: the benchmark links them, and `abi` passes them on to hosts.
 ghost use Rattle.sha1.specs.Sha1.{sha1Answer};
 ghost use Rattle.signature.specs.Hmac.{hmacAnswer};
 ghost use Rattle.signature_export.specs.Written.{Written};
