@@ -4,9 +4,7 @@ pub mod Word
 pub mod Entry
 pub mod Block
 pub mod BlockLaws
-pub mod Sum
 pub mod Written
-pub mod Built
 pub mod Decides
 pub mod Direct
 pub mod Readings

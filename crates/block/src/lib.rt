@@ -1,12 +1,9 @@
-// Entries in blocks of 512 bytes: the order of keys, the sum, the working block.
+// Entries in blocks of 512 bytes: the order of keys, and bytes compared, copied and tested for zero.
 ghost use mathlib.Core.Path.{_≡_};
-ghost use mathlib.Core.List.{_++_};
 ghost use Prim.Native.Nat.{_+_, _<_, _≤_};
-ghost use lib.ListN.{length, take, drop, replicate};
+ghost use lib.ListN.{length, drop, replicate};
 ghost use Rattle.block.specs.Order.{cmp};
 ghost use Rattle.block.specs.Word.{wordAt};
-ghost use Rattle.block.specs.Entry.{entry, Sized};
-ghost use Rattle.block.specs.Block.{block, be32, sumFrom};
 ghost use Rattle.block.specs.Decides.{Decides};
 ghost use Rattle.block.specs.Written.{over};
 
@@ -94,64 +91,6 @@ pub fn copy(out: &mut [u8], at: usize, src: &[u8])
         out[at + i] = src[i];
         i += 1;
     }
-}
-
-// The sum over bytes 0 to 507 of byte times (place + 1), in two halves of 254 bytes side by side.
-pub fn sum(b: &[u8]) -> u64
-    requires { ⌜ 508 ≤ length (now b) ⌝ }
-    ensures { λ r. ⌜ (r ≡ sumFrom 0 (take 508 (now (b .entry)))) × (r < 4294967296) ⌝ }
-{
-    let mut s: u32 = 0;
-    let mut t: u32 = 0;
-    let mut p: u16 = 1;
-    let mut i: usize = 0;
-    while i < 254 {
-        let x = (b[i] as u16) * p;
-        let y = b[i + 254];
-        let z = (y as u16) * p;
-        s += (x as u32) + (z as u32);
-        t += y as u32;
-        p += 1;
-        i += 1;
-    }
-    (s + t * 254) as u64
-}
-
-// Sets the check bytes of a working block.
-pub fn seal(b: &mut [u8])
-    requires { ⌜ length (now b) ≡ 512 ⌝ }
-    ensures { λ _. ⌜ now (b .exit) ≡ take 508 (now (b .entry)) ++ be32 (sumFrom 0 (take 508 (now (b .entry)))) ⌝ }
-{
-    let s = sum(b);
-    b[508] = (s / 16777216) as u8;
-    b[509] = (s / 65536 % 256) as u8;
-    b[510] = (s / 256 % 256) as u8;
-    b[511] = (s % 256) as u8;
-}
-
-// A working block of zeros, filled with an entry's parts and sealed.
-pub fn make(key: &[u8], version: &[u8], tag: &[u8], value: &[u8], algorithm: u8) -> [u8; 512]
-    requires { ⌜ Sized (entry (now key) (now version) (now tag) (now value) algorithm) ⌝ }
-    ensures { λ r. ⌜ r ≡ block (entry (now (key .entry)) (now (version .entry)) (now (tag .entry)) (now (value .entry)) algorithm) ⌝ }
-{
-    let mut b = [0u8; 512];
-    let k = key.len();
-    let v = version.len();
-    let t = tag.len();
-    let n = value.len();
-    b[0] = 1;
-    b[1] = k as u8;
-    b[2] = v as u8;
-    b[3] = t as u8;
-    b[4] = (n / 256) as u8;
-    b[5] = (n % 256) as u8;
-    b[6] = algorithm;
-    copy(&mut b, 8, key);
-    copy(&mut b, 72, version);
-    copy(&mut b, 88, tag);
-    copy(&mut b, 120, value);
-    seal(&mut b);
-    b
 }
 
 // Whether every byte is zero: one pass with no early exit.

@@ -4,9 +4,9 @@ ghost use lib.ListN.{length};
 ghost use Rattle.block.specs.Block.{BlockGood};
 ghost use Rattle.block.specs.Decides.{Decides};
 ghost use Rattle.block.specs.Direct.{Held, Small};
-use block::sum;
 use block::wide;
 use block::zeros;
+use block_sum::sum;
 
 // The number that bytes 508 to 511 hold.
 fn held(b: &[u8]) -> u64

@@ -88,7 +88,7 @@ pub fn put(
     ensures { λ r. ⌜ r ≡ putAnswer (now (store .entry)) (entry (now (key .entry)) (now (version .entry)) (now (tag .entry)) (now (value .entry)) algorithm) ⌝ }
     ensures { λ r. ⌜ now (store .exit) ≡ putStore (now (store .entry)) (entry (now (key .entry)) (now (version .entry)) (now (tag .entry)) (now (value .entry)) algorithm) ⌝ }
 {
-    let b = block::make(key, version, tag, value, algorithm);
+    let b = block_make::make(key, version, tag, value, algorithm);
     if !block_check::good(&b) {
         return PutAnswer::Unfit;
     }

@@ -2,11 +2,11 @@ use Prim.Native.Nat.{ℕ}
 use mathlib.Core.Path.{_∙_, ap}
 use mathlib.Core.List.{_++_}
 use lib.ListN.{take}
 use Rattle.block.specs.Block.{be32}
-use Rattle.block.specs.Built.{last-set}
+use Rattle.block_make.specs.Built.{last-set}
 use borrow.Author.Needs.{needs}
-use Rattle.block.proofs.seal.Statement.{statement}
-use Rattle.block.proofs.seal.Tie as tie
+use Rattle.block_make.proofs.seal.Statement.{statement}
+use Rattle.block_make.proofs.seal.Tie as tie
 
 -- src/lib.rt:87:9
 sum-requires : tie.Need-sum-requires

@@ -2,12 +2,12 @@ use Prim.Native.Nat.{_+_, _-_}
 use native.Mathlib.Omega.{arith}
 use mathlib.Core.List.{_++_}
 use lib.ListN.{length, replicate}
 use Rattle.block.specs.Entry.{Entry, entry}
 use Rattle.block.specs.Block.{head}
-use Rattle.block.specs.Built.{Built, built-head, built-more, written, sealed}
+use Rattle.block_make.specs.Built.{Built, built-head, built-more, written, sealed}
 use borrow.Author.Needs.{needs}
-use Rattle.block.proofs.make.Statement.{statement}
-use Rattle.block.proofs.make.Tie as tie
+use Rattle.block_make.proofs.make.Statement.{statement}
+use Rattle.block_make.proofs.make.Tie as tie
 
 abbrev S1 : tie.After-copy → tie.Start
 S1 c = c .before .before .before .before .before .before
