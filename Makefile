@@ -1,13 +1,10 @@
 .PHONY: test run bench conformance mutants fuzz
 
-# Everything else first; the toolchain's gate last, so that its line is the last.
+# What takes seconds first; then the toolchain's gate, whose line is the last.
 test:
 	tests/expected
 	rt fmt --check
-	examples/run.sh
-	conformance/library.sh
-	conformance/run.py
-	rt ci
+	tests/gate
 
 # What there is to run: a day at a site, and the outside vectors, with a line for each saying what was compared.
 run:
