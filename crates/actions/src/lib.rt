@@ -2,8 +2,8 @@
 use access::Record;
 use lookups::parts::Num;
 use lookups::parts::Part;
-use operations::Shown;
 use protocol::Operation;
+use queries::Shown;
 use requests::Body;
 use requests::KeyValue;
 use requests::Range;
@@ -25,8 +25,8 @@ ghost use Rattle.wire.specs.Reader.{choose};
 ghost use Rattle.lookups.specs.Views.{numView};
 ghost use Rattle.protocol.specs.State.{Connection, State, entries, lent, withStore, withDevice};
 ghost use Rattle.protocol.specs.Judge.{fails, succeeds, shown, versionShown, entryOf, put, deleteBy, range, keysOf, keyValueGood, setUp, secure, securityGood, fault, step10, changed};
-ghost use Rattle.operations.specs.declared.Shown.the-variants.{Found};
-ghost use Rattle.operations.specs.Given.{PartsInside, Showing, entryShown};
+ghost use Rattle.queries.specs.declared.Shown.the-variants.{Found};
+ghost use Rattle.queries.specs.Given.{PartsInside, Showing, entryShown};
 ghost use Rattle.requests.specs.Views.{BodyLies, KeyValueLies, RangeLies, bodyView, keyValueView, rangeView};
 ghost use Rattle.security.specs.Security.{StandsSecurity, aclsIn};
 ghost use Rattle.actions.specs.Sought.{sought};
@@ -112,9 +112,9 @@ fn find_entry(which: Which, store: &[u8], key: &[u8]) -> Shown
     ensures { λ r. ⌜ Showing (now (store .entry)) r (λ s. sought which s (now (key .entry))) ⌝ }
 {
     match which {
-        Which::Own => operations::get(store, key),
-        Which::Next => operations::get_next(store, key),
-        Which::Previous => operations::get_previous(store, key),
+        Which::Own => queries::get(store, key),
+        Which::Next => queries::get_next(store, key),
+        Which::Previous => queries::get_previous(store, key),
     }
 }
 
@@ -142,7 +142,7 @@ fn get_version(out: &mut [u8], by: &[u8], a: Address, store: &[u8], s: &[u8], k:
 {
     let start = k.key.start;
     let end = start + k.key.len;
-    show_version(out, by, a, store, operations::get(store, &s[start..end]))
+    show_version(out, by, a, store, queries::get(store, &s[start..end]))
 }
 
 fn get_key_range(out: &mut [u8], by: &[u8], a: Address, store: &[u8], s: &[u8], g: Range) -> usize

@@ -1,7 +1,7 @@
 -- Laws of PUT, DELETE and SETUP.
 use mathlib.Core.Path.{_≡_, refl, sym, ap, _∙_, subst}
 use mathlib.Core.Bool.{Bool, true, false}
-use mathlib.Core.List.{List, [], _∷_}
+use mathlib.Core.List.{List, []}
 use mathlib.Core.Option.{Option, none, some}
 use Prim.Native.Nat.{ℕ, _≤_}
 use native.Mathlib.Omega.{arith}
@@ -13,75 +13,27 @@ use Rattle.tree.specs.Tree.{guard}
 use Rattle.access.specs.Table.{both, either, within, sameBytes}
 use Rattle.access.specs.Laws.{both-fst, both-snd, within-low, within-high}
 use Rattle.access.specs.Record.{withClusterVersion}
-use Rattle.block.specs.declared.Order.{Order}
-use Rattle.block.specs.Order.{cmp}
-use Rattle.block.specs.OrderLaws.{three, cmp-less, cmp-greater, cmp-same}
-use Rattle.block.specs.Block.{isEqual, fitTest}
+use Rattle.block.specs.Block.{fitTest}
 use Rattle.block.specs.Decides.{agree, says-yes, fit-decides}
 use Rattle.block.specs.Entry.{Entry, entry, Fit}
 use Rattle.store.specs.declared.PutAnswer.{PutAnswer}
 use Rattle.store.specs.declared.PutAnswer.the-variants.{Stored, Full, Unfit}
 use Rattle.store.specs.declared.Found as found
-use Rattle.store.specs.declared.Parts.{Parts}
 use Rattle.store.specs.Store.{entriesOf, Good}
-use Rattle.store.specs.Entries.{partOf, pick, findIn, hasRoom, putAnswer, putStore, deleteStore}
+use Rattle.store.specs.Entries.{pick, findIn, hasRoom, putAnswer, putStore, deleteStore}
 use Rattle.store.specs.Kept.{put-kept, put-same, delete-kept}
 use Rattle.store_write.specs.Change.{kept}
 use Rattle.protocol.specs.State.{State, withDevice}
 use Rattle.protocol.specs.Command.{KeyValue}
 use Rattle.protocol.specs.Judge.{bare, fails, succeeds, changed, setUp, entryAt, entryOf, versionOf, put, deleteBy, keyValueGood, newEntry}
-use Rattle.operations.specs.declared.Shown.{Shown}
-use Rattle.operations.specs.declared.Shown.the-variants.{Found, Missing}
-use Rattle.operations.specs.declared.Version.{Version}
-use Rattle.operations.specs.declared.Version.the-variants.{Same, Other, Absent}
-use Rattle.operations.specs.Given.{entryShown, Showing, versionFound, versionFits, putCode, deleteCode, Puts, Deletes, Changed, Set}
+use Rattle.versions.specs.declared.Version.{Version}
+use Rattle.versions.specs.declared.Version.the-variants.{Same, Other, Absent}
+use Rattle.versions.specs.Given.{versionFound, versionFits}
+use Rattle.versions.specs.Laws.{version-fits}
+use Rattle.operations.specs.Given.{putCode, deleteCode, Puts, Deletes, Changed, Set}
 
 never : {A : Type 0} → _≡_ {A = ℕ} 0 1 → A
 never z = absurd (omega arith)
-
--- ---- same bytes are those that compare as equal
-
-pub same-cmp : (a b : List ℕ) → isEqual (cmp a b) ≡ sameBytes a b
-unfolding cmp isEqual sameBytes
-same-cmp [] [] = refl
-same-cmp [] (y ∷ ys) = refl
-same-cmp (x ∷ xs) [] = refl
-same-cmp (x ∷ xs) (y ∷ ys) =
-    let ih = same-cmp xs ys in
-    three x y
-    (λ h. ap isEqual (cmp-less x y xs ys h) ∙ sym (ap (λ (t : Bool). both t (sameBytes xs ys)) (ne-eqb x y (λ e. omega arith))))
-    (λ h. ap isEqual (cmp-greater x y xs ys h) ∙ sym (ap (λ (t : Bool). both t (sameBytes xs ys)) (ne-eqb x y (λ e. omega arith))))
-    (λ h. ap isEqual (cmp-same x y xs ys h) ∙ ih ∙ sym (ap (λ (t : Bool). both t (sameBytes xs ys)) (eq-eqb x y h)))
-
-pub by-cmp : (a b : List ℕ) (o : Order) → o ≡ cmp a b → isEqual o ≡ sameBytes a b
-by-cmp a b o e = ap isEqual e ∙ same-cmp a b
-
--- ---- the version
-
-no-bytes : (old : List ℕ) → eqb (length old) 0 ≡ sameBytes old []
-unfolding sameBytes
-no-bytes [] = refl
-no-bytes (x ∷ xs) = ne-eqb (length (x ∷ xs)) 0 (λ e. omega arith)
-
-version-fits : (old : List ℕ) (f : Bool) (o : Option Entry) → versionFits (versionFound old o) old f ≡ either f (sameBytes old (versionOf o))
-version-fits old true none = refl
-version-fits old true (some e) = refl
-version-fits old false none = no-bytes old
-version-fits old false (some e) = go (sameBytes old (e .version))
-  where
-    go : (b : Bool) → versionFits (choose b Same Other) old false ≡ b
-    go true = refl
-    go false = refl
-
--- how a version stands to that of the entry that was found
-pub version-found : (old : List ℕ) {l : List ℕ} {r : Shown} {of : State → Option Entry} {p : Parts} → Showing l r of → r ≡ Found p
-    → (b : Bool) → b ≡ sameBytes old (partOf l (p .version)) → (s : State) → s .store ≡ l → choose b Same Other ≡ versionFound old (of s)
-version-found old {l} h e b c s q =
-    ap (λ (b : Bool). choose b Same Other) c ∙ ap (λ (r : Shown). versionFound old (entryShown l r)) (sym e) ∙ ap (versionFound old) (h .same s q)
-
-pub version-none : (old : List ℕ) {l : List ℕ} {r : Shown} {of : State → Option Entry} → Showing l r of → r ≡ Missing
-    → (s : State) → s .store ≡ l → Absent ≡ versionFound old (of s)
-version-none old {l} h e s q = ap (λ (r : Shown). versionFound old (entryShown l r)) (sym e) ∙ ap (versionFound old) (h .same s q)
 
 -- ---- PUT
 

@@ -2,65 +2,20 @@
 use mathlib.Core.Path.{_≡_}
 use mathlib.Core.Bool.{Bool, true, false}
 use mathlib.Core.List.{List, []}
-use mathlib.Core.Option.{Option, none, some}
-use Prim.Native.Nat.{ℕ, _+_, _≤_}
+use mathlib.Core.Option.{Option}
+use Prim.Native.Nat.{ℕ}
 use lib.Dec.{eqb}
-use lib.ListN.{length}
 use Rattle.wire.specs.Reader.{choose}
-use Rattle.access.specs.Table.{sameBytes}
-use Rattle.block.specs.Entry.{Entry}
-use Rattle.store.specs.declared.Parts.{Parts}
 use Rattle.store.specs.declared.PutAnswer.{PutAnswer}
 use Rattle.store.specs.declared.PutAnswer.the-variants.{Stored, Full, Unfit}
 use Rattle.store.specs.Store.{Good}
-use Rattle.store.specs.Entries as store
 use Rattle.protocol.specs.State.{State, withDevice}
 use Rattle.protocol.specs.Command.{KeyValue}
 use Rattle.protocol.specs.Judge.{Result, bare, fails, succeeds, changed, setUp}
-use Rattle.operations.specs.declared.Shown.{Shown}
-use Rattle.operations.specs.declared.Shown.the-variants.{Found, Missing}
-use Rattle.operations.specs.declared.Version.{Version}
-use Rattle.operations.specs.declared.Version.the-variants.{Same, Other, Absent}
-
--- ---- GET, GETVERSION, GETNEXT, GETPREVIOUS
-
--- the entry that is shown, of a store
-abbrev pub entryShown : List ℕ → Shown → Option Entry
-entryShown l (Found p) = some (store.entryOf l p)
-entryShown l Missing = none
-
--- the parts lie inside the store, and are no longer than a block's
-pub record Inside (l : List ℕ) (p : Parts) : Type 0 where
-  pub key : p .key .start + p .key .len ≤ length l
-  pub version : p .version .start + p .version .len ≤ length l
-  pub tag : p .tag .start + p .tag .len ≤ length l
-  pub value : p .value .start + p .value .len ≤ length l
-  pub key-fits : p .key .len ≤ 64
-  pub version-fits : p .version .len ≤ 16
-  pub tag-fits : p .tag .len ≤ 32
-  pub value-fits : p .value .len ≤ 384
-
-abbrev pub PartsInside : List ℕ → Shown → Type 0
-PartsInside l (Found p) = Inside l p
-PartsInside l Missing = Unit {0}
-
--- the answer is the entry that a definition of `Judge` gives in every state with this store
-pub record Showing (l : List ℕ) (r : Shown) (of : State → Option Entry) : Type 0 where
-  pub inside : PartsInside l r
-  pub same : (s : State) → s .store ≡ l → entryShown l r ≡ of s
+use Rattle.versions.specs.declared.Version.{Version}
+use Rattle.versions.specs.declared.Version.the-variants.{Same, Other, Absent}
 
 -- ---- PUT, DELETE
-
-abbrev pub versionFound : List ℕ → Option Entry → Version
-versionFound old none = Absent
-versionFound old (some e) = choose (sameBytes old (e .version)) Same Other
-
--- "without force, dbVersion must equal the stored version, or be empty for a new key"
-abbrev pub versionFits : Version → List ℕ → Bool → Bool
-versionFits v old true = true
-versionFits Same old false = true
-versionFits Other old false = false
-versionFits Absent old false = eqb (length old) 0
 
 -- "A new key that passes this, with no blank block: NO_SPACE (14)"
 abbrev pub putCode : PutAnswer → ℕ

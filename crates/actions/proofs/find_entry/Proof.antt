@@ -1,6 +1,6 @@
 use mathlib.Core.Path.{sym, subst}
 use denote.Ref.{now}
-use Rattle.operations.specs.Given.{Showing}
+use Rattle.queries.specs.Given.{Showing}
 use Rattle.actions.specs.declared.Which.{Which}
 use Rattle.actions.specs.Sought.{sought}
 use borrow.Author.Needs.{needs}

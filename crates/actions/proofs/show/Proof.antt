@@ -2,8 +2,8 @@ use mathlib.Core.Path.{sym, ap, subst}
 use denote.Ref.{now}
 use Rattle.protocol.specs.State.{State}
 use Rattle.protocol.specs.Judge.{shown}
-use Rattle.operations.specs.declared.Shown.{Shown}
-use Rattle.operations.specs.Given.{PartsInside, entryShown}
+use Rattle.queries.specs.declared.Shown.{Shown}
+use Rattle.queries.specs.Given.{PartsInside, entryShown}
 use Rattle.actions.proofs.Results.{sent-as}
 use borrow.Author.Needs.{needs}
 use Rattle.actions.proofs.show.Statement.{statement}

@@ -3,8 +3,8 @@ use denote.Ref.{now}
 use native.Mathlib.Omega.{arith}
 use Rattle.protocol.specs.State.{State}
 use Rattle.protocol.specs.Judge.{versionShown}
-use Rattle.operations.specs.declared.Shown.{Shown}
-use Rattle.operations.specs.Given.{Inside, PartsInside, entryShown}
+use Rattle.queries.specs.declared.Shown.{Shown}
+use Rattle.queries.specs.Given.{Inside, PartsInside, entryShown}
 use Rattle.actions.proofs.Slices.{cut-short, version-cut}
 use Rattle.actions.proofs.Results.{sent-as}
 use borrow.Author.Needs.{needs}

@@ -1,9 +1,9 @@
 use denote.Ref.{now}
 use Rattle.store.specs.Entries.{nextIn}
-use Rattle.operations.specs.Shows.{shown-by}
+use Rattle.queries.specs.Shows.{shown-by}
 use borrow.Author.Needs.{needs}
-use Rattle.operations.proofs.get_next.Statement.{statement}
-use Rattle.operations.proofs.get_next.Tie as tie
+use Rattle.queries.proofs.get_next.Statement.{statement}
+use Rattle.queries.proofs.get_next.Tie as tie
 
 next-requires : tie.Need-next-requires
 next-requires c κs = search needs

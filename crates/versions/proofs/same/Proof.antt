@@ -1,10 +1,10 @@
 use mathlib.Core.Path.{sym, _∙_}
 use Rattle.block.specs.declared.Order.the-variants.{Less, Equal, Greater}
 use Rattle.block.specs.Block.{isEqual}
-use Rattle.operations.specs.Changes.{by-cmp}
+use Rattle.versions.specs.Laws.{by-cmp}
 use borrow.Author.Needs.{needs}
-use Rattle.operations.proofs.same.Statement.{statement}
-use Rattle.operations.proofs.same.Tie as tie
+use Rattle.versions.proofs.same.Statement.{statement}
+use Rattle.versions.proofs.same.Tie as tie
 
 compare-requires : tie.Need-compare-requires
 compare-requires c κs = search needs

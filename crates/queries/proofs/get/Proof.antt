@@ -1,10 +1,10 @@
 use mathlib.Core.Path.{subst}
 use denote.Ref.{now}
 use Rattle.store.specs.Entries.{Sought}
-use Rattle.operations.specs.Shows.{found-at, missing-at}
+use Rattle.queries.specs.Shows.{found-at, missing-at}
 use borrow.Author.Needs.{needs}
-use Rattle.operations.proofs.get.Statement.{statement}
-use Rattle.operations.proofs.get.Tie as tie
+use Rattle.queries.proofs.get.Statement.{statement}
+use Rattle.queries.proofs.get.Tie as tie
 
 find-requires : tie.Need-find-requires
 find-requires c κs = search needs

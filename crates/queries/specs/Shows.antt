@@ -16,9 +16,9 @@ use Rattle.store.specs.Store.{entriesOf, Good, AllFit}
 use Rattle.store.specs.Entries.{EntryAt, Sought, findIn, partOf}
 use Rattle.protocol.specs.State.{State, entries}
 use Rattle.protocol.specs.Judge.{keyValue, fails, succeeds, shown, versionShown, entryAt, entryThere, entryOf}
-use Rattle.operations.specs.declared.Shown.{Shown}
-use Rattle.operations.specs.declared.Shown.the-variants.{Found, Missing}
-use Rattle.operations.specs.Given.{Inside, Showing}
+use Rattle.queries.specs.declared.Shown.{Shown}
+use Rattle.queries.specs.declared.Shown.the-variants.{Found, Missing}
+use Rattle.queries.specs.Given.{Inside, Showing}
 
 -- an entry of a good store, and also what stands past the last, is no longer than a block's parts
 record Short (e : Entry) : Type 0 where

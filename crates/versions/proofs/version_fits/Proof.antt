@@ -1,9 +1,9 @@
 use mathlib.Core.Path.{sym, ap₂}
 use denote.Ref.{now}
-use Rattle.operations.specs.Given.{versionFits}
+use Rattle.versions.specs.Given.{versionFits}
 use borrow.Author.Needs.{needs}
-use Rattle.operations.proofs.version_fits.Statement.{statement}
-use Rattle.operations.proofs.version_fits.Tie as tie
+use Rattle.versions.proofs.version_fits.Statement.{statement}
+use Rattle.versions.proofs.version_fits.Tie as tie
 
 returns : tie.Need-returns
 returns c = search needs

@@ -1,10 +1,10 @@
 use mathlib.Core.Path.{sym, ap}
 use denote.Ref.{now}
 use Rattle.protocol.specs.Judge.{entryThere}
-use Rattle.operations.specs.Shows.{found-there, shown-by}
+use Rattle.queries.specs.Shows.{found-there, shown-by}
 use borrow.Author.Needs.{needs}
-use Rattle.operations.proofs.entry_shown.Statement.{statement}
-use Rattle.operations.proofs.entry_shown.Tie as tie
+use Rattle.queries.proofs.entry_shown.Statement.{statement}
+use Rattle.queries.proofs.entry_shown.Tie as tie
 
 enum-known-p : tie.Need-enum-known-p
 enum-known-p c = search needs

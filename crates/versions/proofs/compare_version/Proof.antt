@@ -6,11 +6,11 @@ use Rattle.store.specs.Entries.{partOf}
 use mathlib.Core.Path.{_≡_, sym, ap, _∙_, subst}
 use denote.Ref.{now}
 use native.Mathlib.Omega.{arith}
-use Rattle.operations.specs.Given.{Inside, PartsInside}
-use Rattle.operations.specs.Changes.{version-found, version-none}
+use Rattle.queries.specs.Given.{Inside, PartsInside}
+use Rattle.versions.specs.Laws.{version-found, version-none}
 use borrow.Author.Needs.{needs}
-use Rattle.operations.proofs.compare_version.Statement.{statement}
-use Rattle.operations.proofs.compare_version.Tie as tie
+use Rattle.versions.proofs.compare_version.Statement.{statement}
+use Rattle.versions.proofs.compare_version.Tie as tie
 
 abbrev G : tie.After-p → tie.After-get
 G c = c .before .before

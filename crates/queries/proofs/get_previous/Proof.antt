@@ -1,9 +1,9 @@
 use denote.Ref.{now}
 use Rattle.store.specs.Entries.{previousIn}
-use Rattle.operations.specs.Shows.{shown-by}
+use Rattle.queries.specs.Shows.{shown-by}
 use borrow.Author.Needs.{needs}
-use Rattle.operations.proofs.get_previous.Statement.{statement}
-use Rattle.operations.proofs.get_previous.Tie as tie
+use Rattle.queries.proofs.get_previous.Statement.{statement}
+use Rattle.queries.proofs.get_previous.Tie as tie
 
 previous-requires : tie.Need-previous-requires
 previous-requires c κs = search needs
