@@ -96,7 +96,7 @@ pub fn put_range(
     let a = reply_parts::push_status(&mut s, 3072, 1);
     let b = push_range(&mut s, a, store, first, count, reverse);
     let c = reply_parts::push_header(&mut s, b, connection, ack, kind);
-    let d = reply_parts::finish(&mut s, c, 3072, key, identity);
+    let d = reply_frames::finish(&mut s, c, 3072, key, identity);
     writers::copy(out, &s[d..3072])
 }
 

@@ -8,10 +8,10 @@ ghost use Rattle.encoding.specs.Encode.{lenField, encode};
 ghost use Rattle.writers.specs.Pushed.{Pushed, Starts, maybe};
 ghost use Rattle.protocol.specs.Judge.{bare, keyValue};
 ghost use Rattle.protocol.specs.Reply.{commandTree, signedReply, closingReply};
-use reply_parts::finish;
+use reply_frames::finish;
+use reply_frames::push_prefix;
 use reply_parts::push_header;
 use reply_parts::push_key_value;
-use reply_parts::push_prefix;
 use reply_parts::push_status;
 use writers::Maybe;
 

@@ -5,7 +5,8 @@ use Rattle.store.specs.Store.{entriesOf}
 use Rattle.writers.specs.Pushed.{maybe}
 use Rattle.protocol.specs.Judge.{range}
 use Rattle.protocol.specs.Reply.{commandTree}
-use Rattle.reply_parts.specs.Parts.{command-law, no-value, signed-whole, copied}
+use Rattle.reply_parts.specs.Parts.{command-law}
+use Rattle.reply_frames.specs.Frames.{no-value, signed-whole, copied}
 use Rattle.ranges.specs.Keys.{keysFrom}
 use borrow.Author.Needs.{needs}
 use Rattle.range_replies.proofs.put_range.Statement.{statement}

@@ -1,6 +1,6 @@
 use native.Mathlib.Omega.{arith}
 use mathlib.Core.Path.{refl}
-use Rattle.reply_parts.specs.Parts.{closing-law, copied}
+use Rattle.reply_frames.specs.Frames.{closing-law, copied}
 use borrow.Author.Needs.{needs}
 use Rattle.replies.proofs.put_closing.Statement.{statement}
 use Rattle.replies.proofs.put_closing.Tie as tie

@@ -3,7 +3,8 @@ use denote.Ref.{now}
 use Rattle.writers.specs.Pushed.{maybe}
 use Rattle.protocol.specs.Judge.{keyValue}
 use Rattle.protocol.specs.Reply.{commandTree}
-use Rattle.reply_parts.specs.Parts.{command-law, signed-whole, copied}
+use Rattle.reply_parts.specs.Parts.{command-law}
+use Rattle.reply_frames.specs.Frames.{signed-whole, copied}
 use borrow.Author.Needs.{needs}
 use Rattle.replies.proofs.put_key_value.Statement.{statement}
 use Rattle.replies.proofs.put_key_value.Tie as tie

@@ -3,7 +3,8 @@ use mathlib.Core.Path.{refl}
 use Rattle.writers.specs.Pushed.{maybe}
 use Rattle.protocol.specs.Judge.{bare}
 use Rattle.protocol.specs.Reply.{commandTree}
-use Rattle.reply_parts.specs.Parts.{bare-law, no-value, signed-whole, copied}
+use Rattle.reply_parts.specs.Parts.{bare-law}
+use Rattle.reply_frames.specs.Frames.{no-value, signed-whole, copied}
 use borrow.Author.Needs.{needs}
 use Rattle.replies.proofs.put_status.Statement.{statement}
 use Rattle.replies.proofs.put_status.Tie as tie

@@ -3,10 +3,10 @@ use denote.Ref.{now}
 use native.Mathlib.Omega.{arith}
 use Rattle.sha1.specs.Sha1.{Answer}
 use Rattle.signature.specs.Hmac.{macAnswer}
-use Rattle.reply_parts.specs.Parts.{made, never-made}
+use Rattle.reply_frames.specs.Frames.{made, never-made}
 use borrow.Author.Needs.{needs}
-use Rattle.reply_parts.proofs.sign.Statement.{statement}
-use Rattle.reply_parts.proofs.sign.Tie as tie
+use Rattle.reply_frames.proofs.sign.Statement.{statement}
+use Rattle.reply_frames.proofs.sign.Tie as tie
 
 hmac-requires : tie.Need-hmac-requires
 hmac-requires c κs = search needs

@@ -4,10 +4,10 @@ use mathlib.Core.Path.{refl, ap}
 use lib.ListN.{length}
 use denote.Ref.{now}
 use Rattle.writers.specs.PushedLaws.{again}
-use Rattle.reply_parts.specs.Parts.{authBytes, finish-law}
+use Rattle.reply_frames.specs.Frames.{authBytes, finish-law}
 use borrow.Author.Needs.{needs}
-use Rattle.reply_parts.proofs.finish.Statement.{statement}
-use Rattle.reply_parts.proofs.finish.Tie as tie
+use Rattle.reply_frames.proofs.finish.Statement.{statement}
+use Rattle.reply_frames.proofs.finish.Tie as tie
 
 sub-value : tie.Need-sub-value
 sub-value c = search needs

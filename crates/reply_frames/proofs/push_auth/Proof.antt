@@ -1,8 +1,8 @@
 use native.Mathlib.Omega.{arith}
-use Rattle.reply_parts.specs.Parts.{auth-law}
+use Rattle.reply_frames.specs.Frames.{auth-law}
 use borrow.Author.Needs.{needs}
-use Rattle.reply_parts.proofs.push_auth.Statement.{statement}
-use Rattle.reply_parts.proofs.push_auth.Tie as tie
+use Rattle.reply_frames.proofs.push_auth.Statement.{statement}
+use Rattle.reply_frames.proofs.push_auth.Tie as tie
 
 push-raw-requires : tie.Need-push-raw-requires
 push-raw-requires c κs = search needs

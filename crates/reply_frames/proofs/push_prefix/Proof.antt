@@ -1,7 +1,7 @@
 use Rattle.writers.specs.PushedLaws.{_onto_}
 use borrow.Author.Needs.{needs}
-use Rattle.reply_parts.proofs.push_prefix.Statement.{statement}
-use Rattle.reply_parts.proofs.push_prefix.Tie as tie
+use Rattle.reply_frames.proofs.push_prefix.Statement.{statement}
+use Rattle.reply_frames.proofs.push_prefix.Tie as tie
 
 push-be32-requires : tie.Need-push-be32-requires
 push-be32-requires c κs = search needs
