@@ -5,7 +5,6 @@ varints) must be the reply's own bytes again.
 """
 import ast
 import pathlib
-import shutil
 import subprocess
 
 import model
@@ -19,9 +18,7 @@ AUTH_TYPES = {1: "HMACAUTH", 3: "UNSOLICITEDSTATUS"}
 
 
 def installed():
-    if not shutil.which("protoc"):
-        for step in ["update"], ["install", "-y", "protobuf-compiler"]:
-            subprocess.run(["apt-get", "-q", *step], check=True, stdout=subprocess.DEVNULL)
+    subprocess.run([HERE.parent / "tests/need", "protoc", "protobuf-compiler"], check=True)
 
 
 def protoc(how, data):

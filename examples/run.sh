@@ -2,7 +2,7 @@
 # Builds examples/box.c with gcc and with clang against the proved calls, runs it, and compares its lines with examples/box.expected.
 set -eu
 cd "$(dirname "$0")/.."
-command -v clang >/dev/null || apt-get -q install -y clang >/dev/null
+tests/need clang clang
 tests/staticlib
 mkdir -p target/examples
 for cc in gcc clang; do

@@ -3,9 +3,8 @@
 # PLAIN_TWICE=1 puts the plain box on both sides, to try the target where crate abi is not proved.
 set -eu
 cd "$(dirname "$0")/.."
-if ! [ -e "$(clang -print-file-name=libclang_rt.fuzzer-x86_64.a 2>/dev/null)" ]; then
-    apt-get update -q >/dev/null && apt-get install -qy clang libclang-rt-dev >/dev/null
-fi
+tests/need clang clang
+tests/need "$(clang -print-file-name=libclang_rt.fuzzer-x86_64.a)" libclang-rt-dev
 if [ "${PLAIN_TWICE:-}" ]; then
     side=-DPLAIN_TWICE
 else

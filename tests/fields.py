@@ -12,7 +12,7 @@ The bytes come from `protoc --encode` for the messages of messages.txt, whose li
 and from the list RAW below, whose lines are worked out by hand. Nothing here is taken from the program. protoc is Debian's
 protobuf-compiler; if it is missing it is installed by that name.
 """
-import ast, os, re, shutil, subprocess, sys
+import ast, os, re, subprocess, sys
 
 HERE = os.path.dirname(os.path.abspath(__file__))
 CRATES = os.path.join(HERE, "..", "crates")
@@ -92,9 +92,7 @@ def says(message, said, reply):
 
 
 def encoded(message, text):
-    if not shutil.which("protoc"):
-        for step in ["update"], ["install", "-y", "protobuf-compiler"]:
-            subprocess.run(["apt-get", "-q", *step], check=True, stdout=subprocess.DEVNULL)
+    subprocess.run([os.path.join(HERE, "need"), "protoc", "protobuf-compiler"], check=True)
     return subprocess.run(["protoc", f"--proto_path={HERE}", f"--encode={message}", "kinetic.proto"],
                           input=text.encode(), stdout=subprocess.PIPE, check=True).stdout
 
