@@ -6,7 +6,7 @@ use native.Mathlib.Omega.{arith}
 use lib.ListN.{length, take, drop, replicate, length-append, length-replicate, replicate-append-replicate, set}
 use lib.Seq.{take-at, drop-at, drop-drop, take-append-add, drop-append-add}
 use Rattle.access.specs.Record.{fill}
-use Rattle.access_write.specs.Write.{put}
+use Rattle.record_bytes.specs.Wrote.{put}
 
 zeros-split : (n a : ℕ) → a ≤ n → replicate {A = ℕ} n 0 ≡ replicate a 0 ++ replicate (n - a) 0
 zeros-split n a h =

@@ -1,4 +1,3 @@
 pub mod Write
-pub mod Wrote
 pub mod Fill
 pub mod Written

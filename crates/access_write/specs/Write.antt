@@ -1,13 +1,10 @@
 -- A table written into a record ACL by ACL and scope by scope, each byte that is written.
-use mathlib.Core.List.{List, [], _∷_, _++_}
+use mathlib.Core.List.{List, [], _∷_}
 use Prim.Native.Nat.{ℕ, _+_, _*_}
-use lib.ListN.{length, take, drop, set}
+use lib.ListN.{set}
 use Rattle.access.specs.Table.{Scope, Acl, Table}
 use Rattle.access.specs.Record.{scopeBytes, aclHead}
-
--- l with bs in place of what stood from index a on
-unfoldable pub put : List ℕ → ℕ → List ℕ → List ℕ
-put l a bs = take a l ++ (bs ++ drop (a + length bs) l)
+use Rattle.record_bytes.specs.Wrote.{put}
 
 -- the table with no ACL yet
 abbrev pub emptyTable : ℕ → Table

@@ -8,8 +8,8 @@ use lib.ListN.{length, replicate, set, length-append, replicate-append-replicate
 use Rattle.access.specs.Table.{Scope, Acl, Table, tableGood, everyScope, hostAcl, hostTable}
 use Rattle.access.specs.Record.{fill, halfBytes, wordBytes, scopeBytes, scopesBytes, aclHead, aclBytes, aclsBytes, tableHead, tableBytes, tableOf}
 use Rattle.access.specs.Readback.{Roomy, RoomyAcl, RoomyAcls, RoomyTable, length-word, length-fill, length-scopeBytes, length-scopesBytes, length-aclsBytes, roomy-table, table-back}
-use Rattle.access_write.specs.Write.{put, emptyTable, putAcl, putScope, putScopes, putAcls}
-use Rattle.access_write.specs.Wrote.{Wrote}
+use Rattle.record_bytes.specs.Wrote.{put, Wrote}
+use Rattle.access_write.specs.Write.{emptyTable, putAcl, putScope, putScopes, putAcls}
 use Rattle.access_write.specs.Fill.{fill-past, fill-more, fill-zeros, fill-fill, put-past, set-past}
 
 scopes-snoc : (ss : List Scope) (s : Scope) → scopesBytes ss ++ scopeBytes s ≡ scopesBytes (ss ++ (s ∷ []))

@@ -1,72 +1,17 @@
-use access::Record;
+// The device record written: the cluster version, and a table ACL by ACL and scope by scope.
 ghost use mathlib.Core.Path.{_≡_};
-ghost use mathlib.Core.Bool.{true, false};
 ghost use Prim.Native.Nat.{_+_, _<_, _≤_};
-ghost use lib.ListN.{length, replicate};
-ghost use Rattle.access.specs.Table.{named, withBit, hostTable};
-ghost use Rattle.access.specs.Record.{fill, flag, wordBytes, scopeBytes, aclHead, tableBytes, withClusterVersion};
+ghost use lib.ListN.{length};
+ghost use Rattle.access.specs.Table.{hostTable};
+ghost use Rattle.access.specs.Record.{scopeBytes, aclHead, tableBytes, withClusterVersion};
+ghost use Rattle.record_bytes.specs.Wrote.{Wrote};
 ghost use Rattle.access_write.specs.Write.{emptyTable, putAcl, putScope};
-ghost use Rattle.access_write.specs.Wrote.{Wrote};
-
-// ---- bytes at a place: each returns the place after
-
-fn put_bytes(out: &mut [u8], at: usize, src: &[u8]) -> usize
-    requires { ⌜ at + length (now src) ≤ length (now out) ⌝ }
-    ensures { λ r. ⌜ Wrote at r (now (src .entry)) (now (out .entry)) (now (out .exit)) ⌝ }
-{
-    let mut i = 0;
-    while i < src.len() {
-        out[at + i] = src[i];
-        i += 1;
-    }
-    at + i
-}
-
-fn put_zeros(out: &mut [u8], at: usize, n: usize) -> usize
-    requires { ⌜ at + n ≤ length (now out) ⌝ }
-    ensures { λ r. ⌜ Wrote at r (replicate n 0) (now (out .entry)) (now (out .exit)) ⌝ }
-{
-    let mut i = 0;
-    while i < n {
-        out[at + i] = 0;
-        i += 1;
-    }
-    at + i
-}
-
-// Filled up with zeros to 64 bytes.
-fn put_filled(out: &mut [u8], at: usize, src: &[u8]) -> usize
-    requires { ⌜ (at + 64 ≤ length (now out)) × (length (now src) ≤ 64) ⌝ }
-    ensures { λ r. ⌜ Wrote at r (fill 64 (now (src .entry))) (now (out .entry)) (now (out .exit)) ⌝ }
-{
-    let end = put_bytes(out, at, src);
-    put_zeros(out, end, 64 - src.len())
-}
-
-fn word_bytes(w: u64) -> [u8; 8]
-    ensures { λ r. ⌜ r ≡ wordBytes w ⌝ }
-{
-    let h = w / 4294967296;
-    let l = w % 4294967296;
-    [
-        (h / 16777216) as u8,
-        (h / 65536 % 256) as u8,
-        (h / 256 % 256) as u8,
-        (h % 256) as u8,
-        (l / 16777216) as u8,
-        (l / 65536 % 256) as u8,
-        (l / 256 % 256) as u8,
-        (l % 256) as u8,
-    ]
-}
-
-fn put_word(out: &mut [u8], at: usize, w: u64) -> usize
-    requires { ⌜ at + 8 ≤ length (now out) ⌝ }
-    ensures { λ r. ⌜ Wrote at r (wordBytes w) (now (out .entry)) (now (out .exit)) ⌝ }
-{
-    let b = word_bytes(w);
-    put_bytes(out, at, &b)
-}
+use access::Record;
+use record_bytes::flag_of;
+use record_bytes::put_bytes;
+use record_bytes::put_filled;
+use record_bytes::put_word;
+use record_bytes::put_zeros;
 
 // ---- cluster version
 
@@ -74,32 +19,6 @@ pub fn set_cluster_version(device: &mut Record, version: u64)
     ensures { λ _. ⌜ now (device .exit) ≡ withClusterVersion (now (device .entry)) version ⌝ }
 {
     put_word(device, 0, version);
-}
-
-// ---- permissions
-
-// Is this one of the permissions that a scope may list?
-pub fn is_permission(p: u64) -> bool
-    ensures { λ r. ⌜ r ≡ named p ⌝ }
-{
-    if p <= 5 {
-        return true;
-    }
-    if p < 7 {
-        return false;
-    }
-    p <= 9
-}
-
-// The set with one permission more.
-pub fn with_permission(mask: u16, permission: u8) -> u16
-    requires { ⌜ permission < 16 ⌝ }
-    ensures { λ r. ⌜ r ≡ withBit mask permission ⌝ }
-{
-    if (mask >> permission) % 2 == 1 {
-        return mask;
-    }
-    mask + (1 << permission)
 }
 
 // ---- a table written anew
@@ -129,15 +48,6 @@ pub fn add_acl(device: &mut Record, place: usize, identity: u64, key: &[u8])
 {
     device[8] = place as u8 + 1;
     put_acl(device, 16 + place * 368, identity, key);
-}
-
-fn flag_of(t: bool) -> u8
-    ensures { λ r. ⌜ r ≡ flag t ⌝ }
-{
-    if t {
-        return 1;
-    }
-    0
 }
 
 fn put_scope(out: &mut [u8], at: usize, offset: u8, mask: u16, tls: bool, value: &[u8]) -> usize

@@ -1,34 +1,26 @@
--- Runs of stores, and the ways through each function.
+-- A word stored, and the ways through each function.
 use mathlib.Core.Path.{_≡_, sym, ap, ap₂, _∙_}
 use mathlib.Core.Bool.{Bool, true, false, not}
-use mathlib.Core.List.{List}
-use Prim.Native.Nat.{ℕ, suc, _+_, _/_, _%_}
+use mathlib.Core.List.{List, append-assoc}
+use Prim.Native.Nat.{ℕ, _+_}
 use native.Mathlib.Omega.{arith}
 use lib.Dec.{eqb}
-use lib.ListN.{getD, set, replicate}
-use lib.Seq.{sets}
+use lib.ListN.{length, take, drop, getD, set, replicate}
+use lib.Seq.{sets, sets-eq}
 use borrow.Author.Tests.{eq-eqb, ne-eqb}
 use Rattle.wire.specs.Reader.{choose}
 use Rattle.tree.specs.Tree.{guard}
 use Rattle.access.specs.Record.{wordAt, halfBytes, wordBytes, flag}
+use Rattle.record_bytes.specs.Wrote.{Wrote, put}
 use Rattle.protocol.specs.State.{Connection}
 use Rattle.connection_bytes.specs.Layout.{yes, connectionAt, connectedBytes, isLast, heardBytes, hears, closes, becomes}
 
-pub half-stored : (l : List ℕ) (a h : ℕ)
-    → set (set (set (set l a (h / 16777216)) (a + 1) (h / 65536 % 256)) (a + 2) (h / 256 % 256)) (a + 3) (h % 256) ≡ sets l a (halfBytes h)
-unfolding halfBytes
-half-stored l a h =
-    let e1 : a + 1 ≡ suc a = omega arith in
-    let e2 : a + 2 ≡ suc (suc a) = omega arith in
-    let e3 : a + 3 ≡ suc (suc (suc a)) = omega arith in
-    rw (e1, e2, e3)
-
-pub word-stored : (l : List ℕ) {m n : List ℕ} (a w : ℕ) → m ≡ sets l a (halfBytes (w / 4294967296)) → n ≡ sets m (a + 4) (halfBytes (w % 4294967296))
-    → n ≡ sets l a (wordBytes w)
-unfolding wordBytes halfBytes
-word-stored l a w p q =
-    let e : a + 4 ≡ suc (suc (suc (suc a))) = omega arith in
-    q ∙ ap₂ (λ (k : List ℕ) (b : ℕ). sets k b (halfBytes (w % 4294967296))) p e
+pub word-stored : {a b : ℕ} {l m : List ℕ} (w : ℕ) → Wrote a b (wordBytes w) l m → m ≡ sets l a (wordBytes w)
+unfolding put
+word-stored {a} {b} {l} w r =
+    let n = r .next in
+    let k = r .room in
+    r .same ∙ sym (sets-eq (wordBytes w) l a (omega arith) ∙ append-assoc (take a l) (wordBytes w) (drop (a + length (wordBytes w)) l))
 
 pub new-stored : {l : List ℕ} {f : ℕ} (n : ℕ) (p : Bool) → l ≡ sets (replicate 32 0) 0 (wordBytes n) → f ≡ flag p → set l 8 f ≡ connectedBytes n p
 unfolding connectedBytes wordBytes halfBytes

@@ -1,12 +1,13 @@
 // A connection in 32 lent bytes: read, made new, and written where it changes.
-use connections::Connection;
 ghost use mathlib.Core.Path.{_≡_};
 ghost use Prim.Native.Nat.{_+_, _≤_, _<_};
-ghost use lib.Seq.{sets};
 ghost use Rattle.tree.specs.Tree.{guard};
-ghost use Rattle.access.specs.Record.{halfAt, wordAt, halfBytes, wordBytes, flag};
+ghost use Rattle.access.specs.Record.{halfAt, wordAt};
 ghost use Rattle.connections.specs.Means.{connectionOf};
 ghost use Rattle.connection_bytes.specs.Layout.{connectionAt, connectedBytes, isLast, heardBytes, hears, closes, becomes};
+use connections::Connection;
+use record_bytes::flag_of;
+use record_bytes::put_word;
 
 pub type Bytes = [u8; 32];
 
@@ -34,24 +35,6 @@ fn word_at(bytes: &Bytes, a: usize) -> u64
     half_at(bytes, a) * 4294967296 + half_at(bytes, a + 4)
 }
 
-fn put_half(bytes: &mut Bytes, a: usize, h: u64)
-    requires { ⌜ (a + 4 ≤ 32) × (h < 4294967296) ⌝ }
-    ensures { λ _. ⌜ now (bytes .exit) ≡ sets (now (bytes .entry)) a (halfBytes h) ⌝ }
-{
-    bytes[a] = (h / 16777216) as u8;
-    bytes[a + 1] = (h / 65536 % 256) as u8;
-    bytes[a + 2] = (h / 256 % 256) as u8;
-    bytes[a + 3] = (h % 256) as u8;
-}
-
-fn put_word(bytes: &mut Bytes, a: usize, w: u64)
-    requires { ⌜ a + 8 ≤ 32 ⌝ }
-    ensures { λ _. ⌜ now (bytes .exit) ≡ sets (now (bytes .entry)) a (wordBytes w) ⌝ }
-{
-    put_half(bytes, a, w / 4294967296);
-    put_half(bytes, a + 4, w % 4294967296);
-}
-
 // The connection that the bytes hold.
 pub fn connection_at(bytes: &Bytes) -> Connection
     ensures { λ r. ⌜ connectionOf r ≡ connectionAt (now (bytes .entry)) ⌝ }
@@ -63,15 +46,6 @@ pub fn connection_at(bytes: &Bytes) -> Connection
         seen: bytes[10] != 0,
         last: word_at(bytes, 16),
     }
-}
-
-fn flag_of(t: bool) -> u8
-    ensures { λ r. ⌜ r ≡ flag t ⌝ }
-{
-    if t {
-        return 1;
-    }
-    0
 }
 
 // A new connection: every byte is written.

@@ -1,6 +1,6 @@
 use mathlib.Core.Path.{_∙_, sym}
 use native.Mathlib.Omega.{arith}
-use Rattle.access_write.specs.Wrote.{_then_, wrote-whole}
+use Rattle.record_bytes.specs.Wrote.{_then_, wrote-whole}
 use Rattle.access_write.specs.Written.{word-next, length-empty, empty-made}
 use borrow.Author.Needs.{needs}
 use Rattle.access_write.proofs.clear_table.Statement.{statement}

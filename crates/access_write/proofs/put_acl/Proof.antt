@@ -1,7 +1,7 @@
 use native.Mathlib.Omega.{arith}
 use Rattle.access.specs.Record.{wordBytes, halfBytes, aclHead}
 use Rattle.access_write.specs.Written.{word-next}
-use Rattle.access_write.specs.Wrote.{_then_}
+use Rattle.record_bytes.specs.Wrote.{_then_}
 use borrow.Author.Needs.{needs}
 use Rattle.access_write.proofs.put_acl.Statement.{statement}
 use Rattle.access_write.proofs.put_acl.Tie as tie

@@ -3,7 +3,7 @@ use mathlib.Core.Path.{ap}
 use mathlib.Core.List.{_∷_}
 use lib.ListN.{length}
 use Rattle.access.specs.Record.{fill, scopeBytes}
-use Rattle.access_write.specs.Wrote.{renamed, _then_}
+use Rattle.record_bytes.specs.Wrote.{renamed, _then_}
 use borrow.Author.Needs.{needs}
 use Rattle.access_write.proofs.put_scope.Statement.{statement}
 use Rattle.access_write.proofs.put_scope.Tie as tie

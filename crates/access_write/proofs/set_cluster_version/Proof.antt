@@ -1,5 +1,5 @@
 use Rattle.access.specs.Record.{wordBytes, halfBytes, withClusterVersion}
-use Rattle.access_write.specs.Write.{put}
+use Rattle.record_bytes.specs.Wrote.{put}
 use borrow.Author.Needs.{needs}
 use Rattle.access_write.proofs.set_cluster_version.Statement.{statement}
 use Rattle.access_write.proofs.set_cluster_version.Tie as tie

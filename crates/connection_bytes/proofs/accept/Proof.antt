@@ -1,4 +1,5 @@
 use Rattle.connection_bytes.specs.Layout.{heardBytes}
+use Rattle.connection_bytes.proofs.Steps.{word-stored}
 use borrow.Author.Needs.{needs}
 use Rattle.connection_bytes.proofs.accept.Statement.{statement}
 use Rattle.connection_bytes.proofs.accept.Tie as tie
@@ -11,7 +12,7 @@ put-word-requires c κs = search needs
 
 returns : tie.Need-returns
 unfolding heardBytes
-returns c = c .put-word .ensures
+returns c = word-stored _ (c .put-word .ensures)
 
 pub accept-spec : {M : Type 1} → statement M
 accept-spec = tie.close (tie.spec element-write-bytes put-word-requires returns)

@@ -1,4 +1,4 @@
-use Rattle.connection_bytes.proofs.Steps.{new-stored}
+use Rattle.connection_bytes.proofs.Steps.{word-stored, new-stored}
 use borrow.Author.Needs.{needs}
 use Rattle.connection_bytes.proofs.connect.Statement.{statement}
 use Rattle.connection_bytes.proofs.connect.Tie as tie
@@ -15,7 +15,7 @@ element-write-bytes c = search needs
 returns : tie.Need-returns
 returns c =
     let z = c .before .before .before .before .args in
-    new-stored (z .number) (z .protected) (c .before .put-word .ensures) (c .flag-of .ensures)
+    new-stored (z .number) (z .protected) (word-stored _ (c .before .put-word .ensures)) (c .flag-of .ensures)
 
 pub connect-spec : {M : Type 1} → statement M
 connect-spec = tie.close (tie.spec put-word-requires flag-of-requires element-write-bytes returns)

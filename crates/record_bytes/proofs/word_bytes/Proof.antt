@@ -1,8 +1,8 @@
 use mathlib.Core.Path.{refl}
 use Rattle.access.specs.Record.{wordBytes, halfBytes}
 use borrow.Author.Needs.{needs}
-use Rattle.access_write.proofs.word_bytes.Statement.{statement}
-use Rattle.access_write.proofs.word_bytes.Tie as tie
+use Rattle.record_bytes.proofs.word_bytes.Statement.{statement}
+use Rattle.record_bytes.proofs.word_bytes.Tie as tie
 
 cast-t5 : tie.Need-cast-t5
 cast-t5 c = search needs

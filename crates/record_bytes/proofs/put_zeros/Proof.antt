@@ -3,9 +3,9 @@ use native.Mathlib.Omega.{arith}
 use native.Mathlib.Nat.{le-antisymm}
 use mathlib.Core.Path.{ap}
 use lib.ListN.{replicate}
-use Rattle.access_write.specs.Wrote.{Wrote, wrote-start, wrote-zero, renamed}
-use Rattle.access_write.proofs.put_zeros.Statement.{statement}
-use Rattle.access_write.proofs.put_zeros.Tie as tie
+use Rattle.record_bytes.specs.Wrote.{Wrote, wrote-start, wrote-zero, renamed}
+use Rattle.record_bytes.proofs.put_zeros.Statement.{statement}
+use Rattle.record_bytes.proofs.put_zeros.Tie as tie
 
 abbrev Inv-loop : tie.InvT-loop
 Inv-loop out₀ at n i₀ out i = (i ≤ n) × Wrote at (at + i) (replicate i 0) out₀ out

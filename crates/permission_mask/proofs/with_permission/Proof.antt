@@ -3,8 +3,8 @@ use mathlib.Core.Path.{_∙_, ap}
 use native.Mathlib.Omega.{arith}
 use Rattle.access.specs.Bits.{with-below, shifted, kept, grown}
 use borrow.Author.Needs.{needs}
-use Rattle.access_write.proofs.with_permission.Statement.{statement}
-use Rattle.access_write.proofs.with_permission.Tie as tie
+use Rattle.permission_mask.proofs.with_permission.Statement.{statement}
+use Rattle.permission_mask.proofs.with_permission.Tie as tie
 
 shr-if1 : tie.Need-shr-if1
 shr-if1 c = search needs

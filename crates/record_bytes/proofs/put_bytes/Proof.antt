@@ -4,9 +4,9 @@ use native.Mathlib.Nat.{le-antisymm}
 use mathlib.Core.Path.{_≡_, _∙_, ap}
 use lib.ListN.{length, take}
 use lib.Seq.{take-length}
-use Rattle.access_write.specs.Wrote.{Wrote, wrote-start, wrote-more, renamed}
-use Rattle.access_write.proofs.put_bytes.Statement.{statement}
-use Rattle.access_write.proofs.put_bytes.Tie as tie
+use Rattle.record_bytes.specs.Wrote.{Wrote, wrote-start, wrote-more, renamed}
+use Rattle.record_bytes.proofs.put_bytes.Statement.{statement}
+use Rattle.record_bytes.proofs.put_bytes.Tie as tie
 
 abbrev Inv-loop : tie.InvT-loop
 Inv-loop out₀ at src i₀ out i = (i ≤ length src) × Wrote at (at + i) (take i src) out₀ out

@@ -6,7 +6,10 @@ use native.Mathlib.Omega.{arith}
 use native.Mathlib.Numerals.{add-one}
 use lib.ListN.{length, take, drop, set, getD, length-append, length-take, length-drop, take-append-drop, replicate, replicate-append-replicate, drop-of-length-le}
 use lib.Seq.{take-suc, take-at, drop-at, set-split, drop-drop}
-use Rattle.access_write.specs.Write.{put}
+
+-- l with bs in place of what stood from index a on
+unfoldable pub put : List ℕ → ℕ → List ℕ → List ℕ
+put l a bs = take a l ++ (bs ++ drop (a + length bs) l)
 
 -- from a to b the bytes bs were written into `before`, which gave `after`; all else stands
 pub record Wrote (a b : ℕ) (bs before after : List ℕ) : Type 0 where

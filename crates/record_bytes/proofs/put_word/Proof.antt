@@ -1,7 +1,7 @@
-use Rattle.access_write.specs.Wrote.{renamed}
+use Rattle.record_bytes.specs.Wrote.{renamed}
 use borrow.Author.Needs.{needs}
-use Rattle.access_write.proofs.put_word.Statement.{statement}
-use Rattle.access_write.proofs.put_word.Tie as tie
+use Rattle.record_bytes.proofs.put_word.Statement.{statement}
+use Rattle.record_bytes.proofs.put_word.Tie as tie
 
 word-bytes-requires : tie.Need-word-bytes-requires
 word-bytes-requires c κs = search needs

@@ -1,7 +1,7 @@
 use borrow.Author.Tests.{le-leb, lt-leb}
 use Rattle.access.specs.Table.{named}
-use Rattle.access_write.proofs.is_permission.Statement.{statement}
-use Rattle.access_write.proofs.is_permission.Tie as tie
+use Rattle.permission_mask.proofs.is_permission.Statement.{statement}
+use Rattle.permission_mask.proofs.is_permission.Tie as tie
 
 returns : tie.Need-returns
 unfolding named

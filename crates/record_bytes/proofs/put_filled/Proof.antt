@@ -1,8 +1,8 @@
 use Rattle.access.specs.Record.{fill}
-use Rattle.access_write.specs.Wrote.{_then_}
+use Rattle.record_bytes.specs.Wrote.{_then_}
 use borrow.Author.Needs.{needs}
-use Rattle.access_write.proofs.put_filled.Statement.{statement}
-use Rattle.access_write.proofs.put_filled.Tie as tie
+use Rattle.record_bytes.proofs.put_filled.Statement.{statement}
+use Rattle.record_bytes.proofs.put_filled.Tie as tie
 
 put-bytes-requires : tie.Need-put-bytes-requires
 put-bytes-requires c κs = search needs
