@@ -16,10 +16,11 @@ use Rattle.protocol.specs.Box.{answers}
 use Rattle.connections.specs.Means.{connectionOf}
 use Rattle.connection_bytes.specs.Layout.{connectionAt, becomes}
 use Rattle.connection_bytes.specs.Follows.{Leaves, answers-leave}
-use Rattle.device.specs.declared.Formatted.{Formatted}
-use Rattle.device.specs.declared.Response.{Response}
-use Rattle.device.specs.declared.Response.the-variants.{OutShort, StoreBad, DeviceBad, Closed, More, Answered}
-use Rattle.device.specs.Means.{formatNumber, Called, refusing, answering, called, afterwards}
+use Rattle.formatting.specs.declared.Formatted.{Formatted}
+use Rattle.formatting.specs.Means.{formatNumber}
+use Rattle.responses.specs.declared.Response.{Response}
+use Rattle.responses.specs.declared.Response.the-variants.{OutShort, StoreBad, DeviceBad, Closed, More, Answered}
+use Rattle.responses.specs.Means.{Called, refusing, answering, called, afterwards}
 use Rattle.abi.specs.Calls.{Left, left, leaves, answerCall, findNumber, partLeft, Find}
 use Rattle.abi.specs.Notes.{Noted, notes}
 

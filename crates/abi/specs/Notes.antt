@@ -3,8 +3,8 @@ use mathlib.Core.List.{List, [], _∷_}
 use Prim.Native.Nat.{ℕ}
 use Rattle.connections.specs.Means.{connectionOf}
 use Rattle.connection_bytes.specs.Layout.{becomes}
-use Rattle.device.specs.declared.Response.{Response}
-use Rattle.device.specs.declared.Response.the-variants.{OutShort, StoreBad, DeviceBad, Closed, More, Answered}
+use Rattle.responses.specs.declared.Response.{Response}
+use Rattle.responses.specs.declared.Response.the-variants.{OutShort, StoreBad, DeviceBad, Closed, More, Answered}
 
 pub record Noted : Type 0 where
   pub number : ℕ

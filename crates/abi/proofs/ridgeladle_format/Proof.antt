@@ -1,4 +1,4 @@
-use Rattle.device.specs.declared.Formatted.the-variants.{Made, StoreBad, KeyBad}
+use Rattle.formatting.specs.declared.Formatted.the-variants.{Made, StoreBad, KeyBad}
 use Rattle.abi.proofs.Steps.{formatted}
 use borrow.Author.Needs.{needs}
 use Rattle.abi.proofs.ridgeladle_format.Statement.{statement}

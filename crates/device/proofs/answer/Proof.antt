@@ -9,10 +9,10 @@ use Rattle.access.specs.Table.{tableGood}
 use Rattle.access.specs.Record.{tableOf}
 use Rattle.protocol.specs.State.{State, lent}
 use Rattle.connections.specs.Means.{connectionOf}
-use Rattle.protocol.specs.Answer.{Outcome}
-use Rattle.protocol.specs.Box.{box, answers}
+use Rattle.protocol.specs.Box.{box}
 use Rattle.protocol.specs.Refusals.{out-short, store-bad, device-bad, closed-before, not-refused}
-use Rattle.device.specs.Means.{afterwards}
+use Rattle.responses.specs.Means.{afterwards}
+use Rattle.responses.specs.Laws.{told-out-short, told-store-bad, told-device-bad, told-closed}
 use borrow.Author.Needs.{needs}
 use Rattle.device.proofs.answer.Statement.{statement}
 use Rattle.device.proofs.answer.Tie as tie
@@ -20,78 +20,61 @@ use Rattle.device.proofs.answer.Tie as tie
 abbrev state : tie.Start → State
 state z = lent (now (z .args .store)) (now (z .args .device)) (connectionOf (z .args .connection))
 
-leaves : (z : tie.Start) {o : Outcome State} → answers (state z) (length (now (z .args .out))) (now (z .args .input)) ≡ o
-    → afterwards (state z) (now (z .args .out)) o ≡ afterwards (state z) (now (z .args .out)) (answers (state z) (length (now (z .args .out))) (now (z .args .input)))
-leaves z e = ap (afterwards (state z) (now (z .args .out))) (sym e)
-
 sound : (c : tie.Else2) → storeGood (now (c .before .before .before .before .before .before .before .args .store)) ≡ true
 sound c = sym (c .before .check .ensures) ∙ not-false _ (c .if2 .left)
 
 right : (c : tie.Else3) → tableGood (tableOf (now (c .before .before .before .before .before .before .before .before .before .before .args .device))) ≡ true
 right c = sym (c .before .record-good .ensures) ∙ not-false _ (c .if3 .left)
 
--- src/lib.rt:224:9
 returns : tie.Need-returns
 returns c =
     let z = c .before .before .before .before in
-    leaves z (out-short box (state z) (length (now (z .args .out))) (now (z .args .input)) (lt-ltb _ _ (c .if1 .taken)))
+    told-out-short (state z) (now (z .args .out)) (now (z .args .input)) (out-short box (state z) (length (now (z .args .out))) (now (z .args .input)) (lt-ltb _ _ (c .if1 .taken)))
 
--- src/lib.rt:226:9
 check-requires : tie.Need-check-requires
 check-requires c κs = search needs
 
--- src/lib.rt:227:9
 same-length : tie.Need-same-length
 same-length c = search needs
 
--- src/lib.rt:227:9
 returns-2 : tie.Need-returns-2
 returns-2 c =
     let z = c .before .before .before .before .before .before .before in
-    leaves z (store-bad box (state z) (length (now (z .args .out))) (now (z .args .input)) (le-ltb _ _ (c .before .before .before .if1 .left)) (sym (c .before .check .ensures) ∙ not-true _ (c .if2 .taken)))
+    told-store-bad (state z) (now (z .args .out)) (now (z .args .input)) (store-bad box (state z) (length (now (z .args .out))) (now (z .args .input)) (le-ltb _ _ (c .before .before .before .if1 .left)) (sym (c .before .check .ensures) ∙ not-true _ (c .if2 .taken)))
 
--- src/lib.rt:229:9
 record-good-requires : tie.Need-record-good-requires
 record-good-requires c κs = search needs
 
--- src/lib.rt:230:9
 same-length-2 : tie.Need-same-length-2
 same-length-2 c = search needs
 
--- src/lib.rt:230:9
 returns-3 : tie.Need-returns-3
 returns-3 c =
     let z = c .before .before .before .before .before .before .before .before .before .before in
-    leaves z (device-bad box (state z) (length (now (z .args .out))) (now (z .args .input)) (le-ltb _ _ (c .before .before .before .before .before .before .if1 .left)) (sound (c .before .before .before)) (sym (c .before .record-good .ensures) ∙ not-true _ (c .if3 .taken)))
+    told-device-bad (state z) (now (z .args .out)) (now (z .args .input)) (device-bad box (state z) (length (now (z .args .out))) (now (z .args .input)) (le-ltb _ _ (c .before .before .before .before .before .before .if1 .left)) (sound (c .before .before .before)) (sym (c .before .record-good .ensures) ∙ not-true _ (c .if3 .taken)))
 
--- src/lib.rt:234:9
 same-length-3 : tie.Need-same-length-3
 same-length-3 c = search needs
 
--- src/lib.rt:234:9
 returns-4 : tie.Need-returns-4
 returns-4 c =
     let z = c .before .before .before .before .before .before .before .before .before .before .before in
-    leaves z (closed-before box (state z) (length (now (z .args .out))) (now (z .args .input)) (le-ltb _ _ (c .before .before .before .before .before .before .before .if1 .left)) (sound (c .before .before .before .before)) (right (c .before)) (c .if4 .taken))
+    told-closed (state z) (now (z .args .out)) (now (z .args .input)) (closed-before box (state z) (length (now (z .args .out))) (now (z .args .input)) (le-ltb _ _ (c .before .before .before .before .before .before .before .if1 .left)) (sound (c .before .before .before .before)) (right (c .before)) (c .if4 .taken))
 
--- src/lib.rt:236:5
 serve-requires : tie.Need-serve-requires
 serve-requires c κs = (c .before .before .before .before .before .before .before .before .before .before .if1 .left, store-decides (now (c .before .before .before .before .before .before .before .before .before .before .before .before .before .before .args .store)) .yes (sound (c .before .before .before .before .before .before .before)), right (c .before .before .before .before))
 
--- src/lib.rt:214:1
 same-length-4 : tie.Need-same-length-4
 same-length-4 c = search needs
 
--- src/lib.rt:214:1
 same-length-5 : tie.Need-same-length-5
 same-length-5 c = search needs
 
--- src/lib.rt:214:1
 returns-5 : tie.Need-returns-5
 returns-5 c =
     let z = c .before .before .before .before .before .before .before .before .before .before .before .before .before .before .before .before .before .before .before in
     c .before .before .before .before .serve .ensures
-    ∙ leaves z (not-refused box (state z) (length (now (z .args .out))) (now (z .args .input)) (le-ltb _ _ (c .before .before .before .before .before .before .before .before .before .before .before .before .before .before .before .if1 .left)) (sound (c .before .before .before .before .before .before .before .before .before .before .before .before)) (right (c .before .before .before .before .before .before .before .before .before)) (c .before .before .before .before .before .before .before .before .if4 .left))
+    ∙ ap (afterwards (state z) (now (z .args .out))) (sym (not-refused box (state z) (length (now (z .args .out))) (now (z .args .input)) (le-ltb _ _ (c .before .before .before .before .before .before .before .before .before .before .before .before .before .before .before .if1 .left)) (sound (c .before .before .before .before .before .before .before .before .before .before .before .before)) (right (c .before .before .before .before .before .before .before .before .before)) (c .before .before .before .before .before .before .before .before .if4 .left)))
 
 pub answer-spec : {M : Type 1} → statement M
 answer-spec =

@@ -8,7 +8,7 @@ use Rattle.connections.specs.Means.{connectionOf}
 use Rattle.framing.specs.declared.Framed.{Framed}
 use Rattle.framing.specs.declared.Framed.the-variants.{Whole}
 use Rattle.framing.specs.Framed.{framing, Inside}
-use Rattle.device.specs.Calls.{more-due, closing-frame, whole-cut}
+use Rattle.responses.specs.Laws.{more-due, closing-frame, whole-cut}
 use borrow.Author.Needs.{needs}
 use Rattle.device.proofs.serve.Statement.{statement}
 use Rattle.device.proofs.serve.Tie as tie
@@ -22,34 +22,27 @@ framed c e = sym (ap (framing (now (c .before .before .before .before .args .inp
 inside : (c : tie.After-message) → Inside (now (c .before .before .before .before .before .before .args .input)) (Whole (c .message .given .0 .0) (c .message .given .0 .1 .0))
 inside c = subst (λ (f : Framed). Inside (now (c .before .before .before .before .before .before .args .input)) f) (c .message .given .1) (c .before .before .frame-at .ensures .inside)
 
--- src/lib.rt:188:11
 frame-at-requires : tie.Need-frame-at-requires
 frame-at-requires c κs = search needs
 
--- src/lib.rt:189:25
 enum-told : tie.Need-enum-told
 enum-told c = search needs
 
--- src/lib.rt:191:39
 enum-told-2 : tie.Need-enum-told-2
 enum-told-2 c = search needs
 
--- src/lib.rt:191:17
 close-requires : tie.Need-close-requires
 close-requires c κs = search needs
 
--- src/lib.rt:199:25
 enum-known-message : tie.Need-enum-known-message
 enum-known-message c = search needs
 
--- src/lib.rt:200:21
 add-m : tie.Need-add-m
 add-m c =
     let i = inside (c .before) in
     let a = i .1 in
     omega arith
 
--- src/lib.rt:201:21
 add-v : tie.Need-add-v
 add-v c =
     let i = inside (c .before) in
@@ -57,67 +50,54 @@ add-v c =
     let b = i .2 in
     omega arith
 
--- src/lib.rt:202:56
 sub-respond : tie.Need-sub-respond
 sub-respond c = search needs
 
--- src/lib.rt:202:56
 part-respond-start : tie.Need-part-respond-start
 part-respond-start c = search needs
 
--- src/lib.rt:202:56
 part-respond-end : tie.Need-part-respond-end
 part-respond-end c =
     let i = inside (c .before .before .before) .0 in
     omega arith
 
--- src/lib.rt:202:70
 sub-respond-2 : tie.Need-sub-respond-2
 sub-respond-2 c = search needs
 
--- src/lib.rt:202:70
 part-respond-start-2 : tie.Need-part-respond-start-2
 part-respond-start-2 c = search needs
 
--- src/lib.rt:202:70
 part-respond-end-2 : tie.Need-part-respond-end-2
 part-respond-end-2 c =
     let i = inside (c .before .before .before .before) .0 in
     omega arith
 
--- src/lib.rt:202:17
 respond-requires : tie.Need-respond-requires
 respond-requires c κs =
     let z = c .before .before .before .before .before .before .before .before .before .before .before .before in
     let i = inside (c .before .before .before .before .before .before) .1 in
     (z .pre .0, z .pre .1, z .pre .2, simp (length-take, length-drop) (omega arith))
 
--- src/lib.rt:178:1
 returns : tie.Need-returns
 returns c =
     let z = c .before .before .before .before .before .before in
     more-due (state z) (now (z .args .out)) (now (z .args .input)) (framed (c .before .before) (c .enum-told .given .1))
 
--- src/lib.rt:178:1
 same-length : tie.Need-same-length
 same-length c = search needs
 
--- src/lib.rt:178:1
 returns-2 : tie.Need-returns-2
 returns-2 c =
     let z = c .before .before .before .before .before .before .before .before .before .before .before in
     let a = z .args in
     closing-frame (state z) (now (a .out)) (now (a .input)) (framed (c .before .before .before .before .before .before .before) (c .before .before .before .before .before .enum-told2 .given .1)) (c .before .before .before .close .ensures (now (a .store)) (now (a .device)))
 
--- src/lib.rt:178:1
 same-length-2 : tie.Need-same-length-2
 same-length-2 c = search needs
 
--- src/lib.rt:178:1
 same-length-3 : tie.Need-same-length-3
 same-length-3 c = search needs
 
--- src/lib.rt:178:1
 returns-3 : tie.Need-returns-3
 returns-3 c =
     let z = c .before .before .before .before .before .before .before .before .before .before .before .before .before .before .before .before .before .before in

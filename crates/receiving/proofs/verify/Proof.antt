@@ -12,10 +12,10 @@ use Rattle.signature.specs.Hmac.{hmac, verified}
 use Rattle.protocol.specs.State.{State, lent}
 use Rattle.protocol.specs.Reading.{sameBytes}
 use Rattle.connections.specs.Means.{connectionOf}
-use Rattle.device.specs.Calls.{sent-as, sent-by, wrong-hmac, right-hmac, hmac-right, key-short}
+use Rattle.receiving.specs.Steps.{sent-as, sent-by, wrong-hmac, right-hmac, hmac-right, key-short}
 use borrow.Author.Needs.{needs}
-use Rattle.device.proofs.verify.Statement.{statement}
-use Rattle.device.proofs.verify.Tie as tie
+use Rattle.receiving.proofs.verify.Statement.{statement}
+use Rattle.receiving.proofs.verify.Tie as tie
 
 placed : (z : tie.Start) → Placed (now (z .args .device)) (z .args .place)
 placed z = found-placed (now (z .args .device)) (z .args .identity) (z .args .place) (z .pre .2) (z .pre .3)
@@ -32,23 +32,18 @@ told c =
     hmac-right (key z) (now (z .args .s)) (now (z .args .sent)) (key-short (now (z .args .device)) (z .args .place) (placed z)) (z .pre .4)
     ∙ sym (c .verify .ensures ∙ ap (λ (k : List ℕ). verified k (now (z .args .s)) (now (z .args .sent))) (c .before .key-of .ensures))
 
--- src/lib.rt:121:27
 key-of-requires : tie.Need-key-of-requires
 key-of-requires c κs = placed (c .before .before .before .before .before .before)
 
--- src/lib.rt:121:9
 verify-requires : tie.Need-verify-requires
 verify-requires c κs = search needs
 
--- src/lib.rt:122:9
 close-requires : tie.Need-close-requires
 close-requires c κs = search needs
 
--- src/lib.rt:122:9
 same-length : tie.Need-same-length
 same-length c = search needs
 
--- src/lib.rt:122:9
 returns : tie.Need-returns
 returns c =
     let z = c .before .before .before .before .before .before .before .before .before .before .before .before .before in
@@ -56,42 +51,34 @@ returns c =
     sent-as (wrong-hmac (state z) (now (a .value)) (a .identity) (now (a .sent)) (now (a .s)) (key z) (told (c .before .before .before .before .before) ∙ not-true _ (c .before .before .before .before .if1 .taken)))
     (c .before .before .close .ensures (now (a .store)) (now (a .device)))
 
--- src/lib.rt:125:37
 slice-aggregate-copy-key : tie.Need-slice-aggregate-copy-key
 slice-aggregate-copy-key c = search needs
 
--- src/lib.rt:125:9
 copy-key-requires : tie.Need-copy-key-requires
 copy-key-requires c κs = (placed (c .before .before .before .before .before .before .before .before .before .before .before), search needs)
 
--- src/lib.rt:135:9
 array-share-prefix-key : tie.Need-array-share-prefix-key
 array-share-prefix-key c =
     let k = c .before .before .before .before .copy-key .ensures .1 in
     omega arith
 
--- src/lib.rt:135:9
 slice-aggregate-decide : tie.Need-slice-aggregate-decide
 slice-aggregate-decide c =
     let k = c .before .before .before .before .before .copy-key .ensures .1 in
     simp (length-take) (omega arith)
 
--- src/lib.rt:126:5
 decide-requires : tie.Need-decide-requires
 decide-requires c κs =
     let z = c .before .before .before .before .before .before .before .before .before .before .before .before .before .before .before .before .before in
     let k = c .before .before .before .before .before .copy-key .ensures .1 in
     (z .pre .0, simp (length-take) (omega arith), z .pre .1, z .pre .2, z .pre .3)
 
--- src/lib.rt:107:1
 same-length-2 : tie.Need-same-length-2
 same-length-2 c = search needs
 
--- src/lib.rt:107:1
 same-length-3 : tie.Need-same-length-3
 same-length-3 c = search needs
 
--- src/lib.rt:107:1
 returns-2 : tie.Need-returns-2
 returns-2 c =
     let z = c .before .before .before .before .before .before .before .before .before .before .before .before .before .before .before .before .before .before .before .before .before .before in

@@ -1,4 +1,4 @@
--- What the answers of the code mean.
+-- What a response means.
 use mathlib.Core.List.{List, _++_}
 use Prim.Native.Nat.{ℕ}
 use lib.ListN.{length, drop}
@@ -6,16 +6,8 @@ use Rattle.protocol.specs.State as state
 use Rattle.protocol.specs.State.{State, lent}
 use Rattle.protocol.specs.Answer.{Outcome, refused, answered}
 use Rattle.connections.specs.Means.{connectionOf}
-use Rattle.device.specs.declared.Formatted.{Formatted}
-use Rattle.device.specs.declared.Formatted.the-variants.{Made, StoreBad, KeyBad}
-use Rattle.device.specs.declared.Response.{Response}
-use Rattle.device.specs.declared.Response.the-variants as response
-
--- document 01's numbers: 0 made, refusals 2 and 6
-abbrev pub formatNumber : Formatted → ℕ
-formatNumber Made = 0
-formatNumber StoreBad = 2
-formatNumber KeyBad = 6
+use Rattle.responses.specs.declared.Response.{Response}
+use Rattle.responses.specs.declared.Response.the-variants as response
 
 -- a call: its refusal by document 01's number, or 0; the bytes of the reply and of the input taken; and all that is lent afterwards
 pub record Called : Type 0 where

@@ -2,8 +2,8 @@ use denote.Ref.{now}
 use native.Mathlib.Omega.{arith}
 use Rattle.protocol.specs.FormatLaws.{size-short, size-long, size-odd, size-right, store-bad, key-empty, key-long, made}
 use borrow.Author.Needs.{needs}
-use Rattle.device.proofs.format.Statement.{statement}
-use Rattle.device.proofs.format.Tie as tie
+use Rattle.formatting.proofs.format.Statement.{statement}
+use Rattle.formatting.proofs.format.Tie as tie
 
 returns : tie.Need-returns
 returns c = store-bad _ _ _ (size-short _ (omega arith))

@@ -2,16 +2,14 @@ use denote.Ref.{now}
 use mathlib.Core.Path.{ap, _∙_}
 use native.Mathlib.Omega.{arith}
 use lib.ListN.{length}
-use Rattle.device.specs.Calls.{key-short, copied}
+use Rattle.receiving.specs.Steps.{key-short, copied}
 use borrow.Author.Needs.{needs}
-use Rattle.device.proofs.copy_key.Statement.{statement}
-use Rattle.device.proofs.copy_key.Tie as tie
+use Rattle.receiving.proofs.copy_key.Statement.{statement}
+use Rattle.receiving.proofs.copy_key.Tie as tie
 
--- src/lib.rt:103:24
 key-of-requires : tie.Need-key-of-requires
 key-of-requires c κs = c .before .before .pre .0
 
--- src/lib.rt:103:5
 copy-requires : tie.Need-copy-requires
 copy-requires c κs =
     let a = c .before .before .before .args in
@@ -20,11 +18,9 @@ copy-requires c κs =
     let l = c .before .before .before .pre .1 in
     omega arith
 
--- src/lib.rt:99:1
 same-length : tie.Need-same-length
 same-length c = search needs
 
--- src/lib.rt:99:1
 returns : tie.Need-returns
 returns c =
     let a = c .before .before .before .before .before .before .args in

@@ -1,11 +1,11 @@
--- The steps of a call, one law for each way that it goes.
+-- Steps 1 and 2, one law for each way that they go.
 use mathlib.Core.Path.{_≡_, refl, sym, ap, ap₂, subst, _∙_}
 use mathlib.Core.Bool.{Bool, true, false}
-use mathlib.Core.List.{List, _++_}
+use mathlib.Core.List.{List}
 use mathlib.Core.Option.{Option, none, some}
 use Prim.Native.Nat.{ℕ, _+_, _-_, _*_, _≤_}
 use native.Mathlib.Omega.{arith}
-use lib.ListN.{length, take, drop, getD, length-take, length-drop}
+use lib.ListN.{length, take, drop, getD}
 use lib.Seq.{take-at}
 use Rattle.wire.specs.Reader.{choose}
 use Rattle.tree.specs.Tree.{listed, guard, mapO}
@@ -25,15 +25,13 @@ use Rattle.security.proofs.Scopes.{slice-at}
 use Rattle.lookups.specs.Views.{bytesAt as bytesIn}
 use Rattle.requests.specs.declared.message.Sealed.{Sealed}
 use Rattle.requests.specs.Messages.{sealedView}
-use Rattle.protocol.specs.State.{State, table, closing}
-use Rattle.protocol.specs.Frame.{Framing, more, closes, whole, frameOf}
+use Rattle.protocol.specs.State.{State, table}
 use Rattle.protocol.specs.Reading as reading
 use Rattle.protocol.specs.Reading.{Envelope, envelope, readMessage, readingBy, sameBytes, decoded, verified, opened}
 use Rattle.protocol.specs.Proved.{same-bytes, bytes-same}
-use Rattle.protocol.specs.Answer.{Reply, reply, taking, respond, serve}
+use Rattle.protocol.specs.Answer.{Reply, respond}
 use Rattle.protocol.specs.Box.{box, close, aclAt}
 use Rattle.sending.specs.Sent.{Sent}
-use Rattle.device.specs.Means.{Called, refusing, answering, afterwards}
 
 -- the same reply by another name
 pub sent-as : {x y : Reply State} {n : ℕ} {out out' : List ℕ} {after : State} → x ≡ y → Sent y n out out' after → Sent x n out out' after
@@ -55,7 +53,7 @@ module _ (s : State) (v : List ℕ) where
   abbrev keyOf : ℕ → Option (List ℕ)
   keyOf i = box .keyOf s i
 
-  abbrev pub replyTo : List ℕ → Reply State
+  abbrev replyTo : List ℕ → Reply State
   replyTo m = respond box s v (readingBy hmac keyOf m)
 
   pub unread : (m : List ℕ) → readMessage m ≡ none → replyTo m ≡ close s 20
@@ -112,44 +110,3 @@ key-short l i p =
 
 pub copied : {n : ℕ} {bs before after : List ℕ} → Starts n bs before after → take n after ≡ bs
 copied {n} {bs} {before} {after} h = ap (take n) (h .same) ∙ take-at bs (drop n before) n (sym (h .next))
-
--- ---- the call
-
-pub answered-by : (s : State) (t : ℕ) {x : Reply State} {n : ℕ} {out out' : List ℕ} {after : State} → Sent x n out out' after
-    → answering n t after out' ≡ afterwards s out (taking t x)
-answered-by s t {x = reply b a} {n = n} {out} {out'} {after} h = go (h .told .next) (sym (h .left)) (h .told .same)
-  where
-    go : n ≡ length b → after ≡ a → out' ≡ b ++ drop n out
-        → answering n t after out' ≡ answering (length b) t a (b ++ drop (length b) out)
-    go e f g =
-        let k : out' ≡ b ++ drop (length b) out = g ∙ ap (λ (n : ℕ). b ++ drop n out) e in
-        λ i. answering (e i) t (f i) (k i)
-
--- by the frame
-module _ (s : State) (out xs : List ℕ) where
-  abbrev served : Framing → Called
-  served f = afterwards s out (serve box s (length xs) f)
-
-  pub more-due : more ≡ frameOf xs → refusing 5 s out ≡ served (frameOf xs)
-  more-due e = ap served e
-
-  module _ {n : ℕ} {out' : List ℕ} {after : State} where
-    pub closing-frame : closes ≡ frameOf xs → Sent (close s 20) n out out' after
-        → answering n (length xs) after out' ≡ served (frameOf xs)
-    closing-frame e h = answered-by s (length xs) h ∙ ap served e
-
-    pub whole-frame : {m v r : List ℕ} {t : ℕ} → whole m v r ≡ frameOf xs → t ≡ 9 + length m + length v → Sent (replyTo s v m) n out out' after
-        → answering n t after out' ≡ served (frameOf xs)
-    whole-frame {m} {v} {t = t} e g h =
-        answered-by s t h ∙ ap (λ (t : ℕ). afterwards s out (taking t (replyTo s v m))) g ∙ ap served e
-
-    -- a frame as the code cuts it
-    pub whole-cut : (m v : ℕ) → whole (take m (drop 9 xs)) (take v (drop (9 + m) xs)) (drop (9 + m + v) xs) ≡ frameOf xs → 9 + m + v ≤ length xs
-        → Sent (replyTo s (take (9 + m + v - (9 + m)) (drop (9 + m) xs)) (take (9 + m - 9) (drop 9 xs))) n out out' after
-        → answering n (9 + m + v) after out' ≡ served (frameOf xs)
-    whole-cut m v e l h =
-        let f : 9 + m + v - (9 + m) ≡ v = omega arith in
-        let g : 9 + m - 9 ≡ m = omega arith in
-        let k : 9 + m + v ≡ 9 + length (take m (drop 9 xs)) + length (take v (drop (9 + m) xs)) = simp (length-take, length-drop) (omega arith) in
-        whole-frame e k (subst (λ (b : ℕ). Sent (replyTo s (take v (drop (9 + m) xs)) (take b (drop 9 xs))) n out out' after) g
-        (subst (λ (b : ℕ). Sent (replyTo s (take b (drop (9 + m) xs)) (take (9 + m - 9) (drop 9 xs))) n out out' after) f h))

@@ -8,10 +8,10 @@ use Rattle.access.specs.Record.{tableOf}
 use Rattle.access.specs.declared.Found.the-variants.{At}
 use Rattle.protocol.specs.State.{State, lent}
 use Rattle.connections.specs.Means.{connectionOf}
-use Rattle.device.specs.Calls.{sent-as, sealed, unsealed, unread, known, unknown}
+use Rattle.receiving.specs.Steps.{sent-as, sealed, unsealed, unread, known, unknown}
 use borrow.Author.Needs.{needs}
-use Rattle.device.proofs.respond.Statement.{statement}
-use Rattle.device.proofs.respond.Tie as tie
+use Rattle.receiving.proofs.respond.Statement.{statement}
+use Rattle.receiving.proofs.respond.Tie as tie
 
 abbrev state : tie.Start → State
 state z = lent (now (z .args .store)) (now (z .args .device)) (connectionOf (z .args .connection))
@@ -19,19 +19,15 @@ state z = lent (now (z .args .store)) (now (z .args .device)) (connectionOf (z .
 found : (c : tie.After-place) → placeOf (tableOf (now (c .before .before .before .before .before .before .before .before .before .before .before .before .args .device))) (c .before .before .before .before .before .before .before .read-message .result .identity) ≡ At (c .place .given .0 .0)
 found c = sym (c .before .before .find-identity .ensures) ∙ c .place .given .1
 
--- src/lib.rt:151:9
 read-message-requires : tie.Need-read-message-requires
 read-message-requires c κs = search needs
 
--- src/lib.rt:154:9
 close-requires : tie.Need-close-requires
 close-requires c κs = search needs
 
--- src/lib.rt:154:9
 same-length : tie.Need-same-length
 same-length c = search needs
 
--- src/lib.rt:154:9
 returns : tie.Need-returns
 returns c =
     let z = c .before .before .before .before .before .before .before .before .before .before in
@@ -40,70 +36,54 @@ returns c =
     sent-as (unread (state z) (now (a .value)) (now (a .message)) (unsealed (now (a .message)) (m .result) (m .ensures .0) (not-true _ (c .before .before .before .before .if1 .taken))))
     (c .before .before .close .ensures (now (a .store)) (now (a .device)))
 
--- src/lib.rt:158:20
 add-hmac-end : tie.Need-add-hmac-end
 add-hmac-end c = search needs
 
--- src/lib.rt:160:23
 add-command-end : tie.Need-add-command-end
 add-command-end c = search needs
 
--- src/lib.rt:161:11
 find-identity-requires : tie.Need-find-identity-requires
 find-identity-requires c κs = search needs
 
--- src/lib.rt:162:19
 enum-known-place : tie.Need-enum-known-place
 enum-known-place c = search needs
 
--- src/lib.rt:168:13
 sub-verify : tie.Need-sub-verify
 sub-verify c = search needs
 
--- src/lib.rt:168:13
 part-verify-start : tie.Need-part-verify-start
 part-verify-start c = search needs
 
--- src/lib.rt:168:13
 part-verify-end : tie.Need-part-verify-end
 part-verify-end c = search needs
 
--- src/lib.rt:169:13
 sub-verify-2 : tie.Need-sub-verify-2
 sub-verify-2 c = search needs
 
--- src/lib.rt:169:13
 part-verify-start-2 : tie.Need-part-verify-start-2
 part-verify-start-2 c = search needs
 
--- src/lib.rt:169:13
 part-verify-end-2 : tie.Need-part-verify-end-2
 part-verify-end-2 c = search needs
 
--- src/lib.rt:162:29
 verify-requires : tie.Need-verify-requires
 verify-requires c κs =
     let z = c .before .before .before .before .before .before .before .before .before .before .before .before .before .before .before .before .before .before in
     let l = z .pre .3 in
     (z .pre .0, z .pre .1, z .pre .2, found (c .before .before .before .before .before .before), simp (length-take, length-drop) (omega arith))
 
--- src/lib.rt:173:44
 enum-told : tie.Need-enum-told
 enum-told c = search needs
 
--- src/lib.rt:173:26
 close-requires-2 : tie.Need-close-requires-2
 close-requires-2 c κs = search needs
 
--- src/lib.rt:140:1
 same-length-2 : tie.Need-same-length-2
 same-length-2 c = search needs
 
--- src/lib.rt:140:1
 same-length-3 : tie.Need-same-length-3
 same-length-3 c = search needs
 
--- src/lib.rt:140:1
 returns-2 : tie.Need-returns-2
 returns-2 c =
     let z = c .before .before .before .before .before .before .before .before .before .before .before .before .before .before .before .before .before .before .before .before .before .before .before in
@@ -112,11 +92,9 @@ returns-2 c =
     sent-as (known (state z) (now (a .value)) (now (a .message)) (sealed (now (a .message)) (m .result) (m .ensures .0) (not-false _ (c .before .before .before .before .before .before .before .before .before .before .before .before .before .before .before .before .before .if1 .left))) (found (c .before .before .before .before .before .before .before .before .before .before .before)))
     (c .before .before .before .before .verify .ensures)
 
--- src/lib.rt:140:1
 same-length-4 : tie.Need-same-length-4
 same-length-4 c = search needs
 
--- src/lib.rt:140:1
 returns-3 : tie.Need-returns-3
 returns-3 c =
     let z = c .before .before .before .before .before .before .before .before .before .before .before .before .before .before .before .before in

@@ -1,0 +1,36 @@
+// Format: the device record and the store of a new box.
+use access::Record;
+ghost use Rattle.protocol.specs.Format.{Told};
+ghost use Rattle.formatting.specs.Means.{formatNumber};
+
+// What Format answers.
+pub enum Formatted {
+    Made,
+    StoreBad,
+    KeyBad,
+}
+
+// Makes the device record and a store of blank blocks; on a refusal nothing changes.
+pub fn format(store: &mut [u8], device: &mut Record, key: &[u8]) -> Formatted
+    ensures { λ r. ⌜ Told (formatNumber r) (now (store .entry)) (now (device .entry)) (now (key .entry)) (now (store .exit)) (now (device .exit)) ⌝ }
+{
+    let n = store.len();
+    if n < 512 {
+        return Formatted::StoreBad;
+    }
+    if 65536 < n {
+        return Formatted::StoreBad;
+    }
+    if n % 512 != 0 {
+        return Formatted::StoreBad;
+    }
+    if key.len() == 0 {
+        return Formatted::KeyBad;
+    }
+    if 64 < key.len() {
+        return Formatted::KeyBad;
+    }
+    store_write::blank(store);
+    access_write::format_record(device, key);
+    Formatted::Made
+}
