@@ -18,7 +18,7 @@ use Rattle.protocol.specs.State.{State, entries}
 use Rattle.protocol.specs.Command as command
 use Rattle.protocol.specs.Command.{orElse}
 use Rattle.protocol.specs.Judge.{algorithmsGood, broken, changeGood, deleteBy, entryOf, entryThere, fault, isEmpty, keyValueGood, keyValueIn, keysOf, noKeyValue, noRange, present, put, range, rangeGood, rangeIn, secure, securityGood, setUp, shown, step10, succeeds, versionShown}
-use Rattle.judgement.specs.Passed.{put-passed, range-passed}
+use Rattle.body_rules.specs.Passed.{put-passed, range-passed}
 use Rattle.requests.specs.declared.Body.{Body}
 use Rattle.requests.specs.Views.{bodyView, keyValueView, rangeView}
 use Rattle.security.specs.Security.{aclsIn}

@@ -13,7 +13,7 @@ use Rattle.lookups.proofs.Slotted.{length-at}
 use Rattle.protocol.specs.Command as c
 use Rattle.protocol.specs.Command.{orElse}
 use Rattle.protocol.specs.Judge.{present, keyValueGood, changeGood, securityGood, algorithmsGood}
-use Rattle.judgement.specs.Given.{securityFault, Lengths, RangeLengths}
+use Rattle.body_rules.specs.Given.{securityFault, Lengths, RangeLengths}
 use Rattle.requests.specs.Views.{keyValueView, rangeView, KeyValueLies, RangeLies}
 use Rattle.requests.specs.declared.KeyValue.{KeyValue}
 use Rattle.requests.specs.declared.Range.{Range}

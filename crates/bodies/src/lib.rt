@@ -18,7 +18,7 @@ ghost use Prim.Native.Nat.{ℕ};
 ghost use lib.ListN.{length};
 ghost use Rattle.tree.specs.Tree.{guard};
 ghost use Rattle.protocol.specs.Judge.{fault, present, keyValueGood, changeGood, rangeGood};
-ghost use Rattle.judgement.specs.Given.{securityFault};
+ghost use Rattle.body_rules.specs.Given.{securityFault};
 ghost use Rattle.requests.specs.Views.{BodyLies, KeyValueLies, RangeLies, bodyView, keyValueView, rangeView};
 ghost use Rattle.security.specs.Security.{StandsSecurity, aclsIn};
 

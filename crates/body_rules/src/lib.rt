@@ -5,7 +5,7 @@ ghost use Prim.Native.Nat.{ℕ};
 ghost use Rattle.tree.specs.Tree.{guard};
 ghost use Rattle.protocol.specs.Command.{KeyValue, Range, Body};
 ghost use Rattle.protocol.specs.Judge.{broken, fault, keyValueGood, rangeGood};
-ghost use Rattle.judgement.specs.Given.{mostValue, partFault, Lengths, RangeLengths, Checked};
+ghost use Rattle.body_rules.specs.Given.{mostValue, partFault, Lengths, RangeLengths, Checked};
 use protocol::Operation;
 
 // The lengths of a keyValue's key, newVersion, dbVersion and tag.

@@ -35,7 +35,8 @@ use Rattle.requests.specs.declared.Header.{Header}
 use Rattle.requests.specs.Views.{BodyLies, bodyView, headerView}
 use Rattle.encoding.specs.Basics.{never}
 use Rattle.security.proofs.Scopes.{slice-at}
-use Rattle.judgement.specs.Given.{Heard, Keys, headerFault, headerThere, idIn, sequenceIn}
+use Rattle.permission_rules.specs.Given.{Keys}
+use Rattle.judgement.specs.Given.{Heard, headerFault, headerThere, idIn, sequenceIn}
 use Rattle.judgement.specs.Steps.{judge-by, rest, sequenceHeard, typeIn}
 use Rattle.sending.specs.declared.Address.{Address}
 use Rattle.sending.specs.Sent.{Sent, replied}

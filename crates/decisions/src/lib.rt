@@ -64,7 +64,7 @@ fn serve(
     let key = b.entry.key.start;
     let start = b.range.start.start;
     let end = b.range.end.start;
-    if !judgement::permitted(
+    if !permission_rules::permitted(
         device,
         place,
         protected,
@@ -134,13 +134,13 @@ fn judge(
     let id = in_header(q.headed, q.header.connection);
     let sequence = in_header(q.headed, q.header.sequence);
     let kind = in_header(q.headed, q.header.kind);
-    let asked = judgement::asked_by(kind.has, kind.value);
+    let asked = message_types::asked_by(kind.has, kind.value);
     let a = Address {
         identity,
         connection: connection.number,
         sequenced: sequence.has,
         sequence: sequence.value,
-        kind: judgement::reply_type(asked),
+        kind: message_types::reply_type(asked),
     };
     let code = judgement::header_fault(
         device,

@@ -1,8 +1,8 @@
 use mathlib.Core.Path.{_∙_}
 use Prim.Native.Nat.{_<_, _≤_}
 use native.Mathlib.Omega.{arith}
-use Rattle.judgement.specs.Given.{mostValue, partFault}
-use Rattle.judgement.specs.Laws.{over-long, not-long, by-checked}
+use Rattle.body_rules.specs.Given.{mostValue, partFault}
+use Rattle.body_rules.specs.Laws.{over-long, not-long, by-checked}
 use borrow.Author.Needs.{needs}
 use Rattle.body_rules.proofs.fault.Statement.{statement}
 use Rattle.body_rules.proofs.fault.Tie as tie

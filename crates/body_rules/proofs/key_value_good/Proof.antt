@@ -1,5 +1,5 @@
 use borrow.Author.Tests.{le-leb, lt-leb}
-use Rattle.judgement.specs.Laws.{by-lengths}
+use Rattle.body_rules.specs.Laws.{by-lengths}
 use Rattle.body_rules.proofs.key_value_good.Statement.{statement}
 use Rattle.body_rules.proofs.key_value_good.Tie as tie
 

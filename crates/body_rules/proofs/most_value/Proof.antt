@@ -1,5 +1,5 @@
 use mathlib.Core.Path.{sym, ap}
-use Rattle.judgement.specs.Given.{mostValue}
+use Rattle.body_rules.specs.Given.{mostValue}
 use borrow.Author.Needs.{needs}
 use Rattle.body_rules.proofs.most_value.Statement.{statement}
 use Rattle.body_rules.proofs.most_value.Tie as tie

@@ -1,5 +1,5 @@
 use mathlib.Core.Path.{sym, ap}
-use Rattle.judgement.specs.Given.{partFault}
+use Rattle.body_rules.specs.Given.{partFault}
 use borrow.Author.Needs.{needs}
 use Rattle.body_rules.proofs.part_fault.Statement.{statement}
 use Rattle.body_rules.proofs.part_fault.Tie as tie

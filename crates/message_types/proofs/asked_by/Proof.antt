@@ -1,6 +1,6 @@
 use borrow.Author.Needs.{needs}
-use Rattle.judgement.proofs.asked_by.Statement.{statement}
-use Rattle.judgement.proofs.asked_by.Tie as tie
+use Rattle.message_types.proofs.asked_by.Statement.{statement}
+use Rattle.message_types.proofs.asked_by.Tie as tie
 
 asked-requires : tie.Need-asked-requires
 asked-requires c κs = search needs

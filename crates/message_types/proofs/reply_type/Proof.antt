@@ -2,10 +2,10 @@ use mathlib.Core.Path.{sym, ap, _∙_}
 use Prim.Native.Nat.{ℕ, _-_}
 use native.Mathlib.Omega.{arith}
 use Rattle.protocol.specs.Operation.{replyType}
-use Rattle.judgement.specs.Laws.{type-some}
+use Rattle.message_types.specs.Laws.{type-some}
 use borrow.Author.Needs.{needs}
-use Rattle.judgement.proofs.reply_type.Statement.{statement}
-use Rattle.judgement.proofs.reply_type.Tie as tie
+use Rattle.message_types.proofs.reply_type.Statement.{statement}
+use Rattle.message_types.proofs.reply_type.Tie as tie
 
 enum-known-a : tie.Need-enum-known-a
 enum-known-a c = search needs

@@ -1,8 +1,8 @@
 use mathlib.Core.Path.{sym, ap}
 use Rattle.protocol.specs.Operation.{typeOf}
 use borrow.Author.Needs.{needs}
-use Rattle.judgement.proofs.type_of.Statement.{statement}
-use Rattle.judgement.proofs.type_of.Tie as tie
+use Rattle.message_types.proofs.type_of.Statement.{statement}
+use Rattle.message_types.proofs.type_of.Tie as tie
 
 enum-told : tie.Need-enum-told
 enum-told c = search needs

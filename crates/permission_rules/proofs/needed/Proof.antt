@@ -1,8 +1,8 @@
 use mathlib.Core.Path.{sym, ap}
-use Rattle.judgement.specs.Given.{permissionOf}
+use Rattle.permission_rules.specs.Given.{permissionOf}
 use borrow.Author.Needs.{needs}
-use Rattle.judgement.proofs.needed.Statement.{statement}
-use Rattle.judgement.proofs.needed.Tie as tie
+use Rattle.permission_rules.proofs.needed.Statement.{statement}
+use Rattle.permission_rules.proofs.needed.Tie as tie
 
 enum-told : tie.Need-enum-told
 enum-told c = search needs

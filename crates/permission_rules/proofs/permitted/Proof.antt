@@ -4,12 +4,12 @@ use Rattle.access.specs.Table.{aclOf}
 use Rattle.access.specs.Record.{tableOf}
 use Rattle.protocol.specs.Command.{Body}
 use Rattle.protocol.specs.Judge.{permitted}
-use Rattle.judgement.specs.declared.Permission.{Permission}
-use Rattle.judgement.specs.Given.{permissionOf, Keys}
-use Rattle.judgement.specs.Laws.{small-key, small-any, verdict, by-needed}
+use Rattle.permission_rules.specs.declared.Permission.{Permission}
+use Rattle.permission_rules.specs.Given.{permissionOf, Keys}
+use Rattle.permission_rules.specs.Laws.{small-key, small-any, verdict, by-needed}
 use borrow.Author.Needs.{needs}
-use Rattle.judgement.proofs.permitted.Statement.{statement}
-use Rattle.judgement.proofs.permitted.Tie as tie
+use Rattle.permission_rules.proofs.permitted.Statement.{statement}
+use Rattle.permission_rules.proofs.permitted.Tie as tie
 
 abbrev S : tie.After-needed → tie.Start
 S n = n .before .before .before .before

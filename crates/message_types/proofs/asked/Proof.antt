@@ -1,8 +1,8 @@
 use mathlib.Core.Path.{sym, ap}
 use Rattle.protocol.specs.Operation.{asked}
-use Rattle.judgement.specs.Laws.{not-built}
-use Rattle.judgement.proofs.asked.Statement.{statement}
-use Rattle.judgement.proofs.asked.Tie as tie
+use Rattle.message_types.specs.Laws.{not-built}
+use Rattle.message_types.proofs.asked.Statement.{statement}
+use Rattle.message_types.proofs.asked.Tie as tie
 
 returns : tie.Need-returns
 unfolding asked
