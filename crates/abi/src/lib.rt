@@ -7,7 +7,7 @@ use local::Local;
 ghost use mathlib.Core.Path.{_≡_};
 ghost use mathlib.Core.Bool.{not};
 ghost use lib.Dec.{eqb};
-ghost use Rattle.wire.specs.Signed.{wordOf};
+ghost use Rattle.integers.specs.Signed.{wordOf};
 ghost use Rattle.sha1.specs.Sha1.{sha1Answer};
 ghost use Rattle.signature.specs.Hmac.{hmacAnswer};
 ghost use Rattle.signature_export.specs.Written.{Written};
@@ -33,7 +33,7 @@ pub extern "C" fn ridgeladle_format(store: &mut [u8], device: &mut Record, key: 
 pub extern "C" fn ridgeladle_connect(connection: &mut Bytes, number: i64, protected: u8)
     ensures { λ _. ⌜ now (connection .exit) ≡ connectedBytes (wordOf number) (not (eqb protected 0)) ⌝ }
 {
-    connection_bytes::connect(connection, wire::signed::word(number), protected != 0);
+    connection_bytes::connect(connection, integers::word(number), protected != 0);
 }
 
 // The number of a response; where it is an answer, what changed of the connection, and the counts.

@@ -6,12 +6,12 @@ use fields::judge::Judged;
 use fields::judge::Taken;
 use fields::judge::judge;
 use fields::nested::reads;
+use integers::signed;
 use libc::STDIN_FILENO;
 use libc::STDOUT_FILENO;
 use tree::Kind;
 use wire::field::next_of;
 use wire::field::read_field;
-use wire::signed::signed;
 
 fn wide(b: u8) -> u64 {
     b as u64

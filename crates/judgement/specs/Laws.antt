@@ -11,8 +11,8 @@ use lib.Signed.{ltZ}
 use mir.Syntax.{w64}
 use mir.Val.{sel, toZ, ofZ}
 use borrow.Author.Tests.{ltb-true, ltb-false, lt-ltb, le-ltb, eq-eqb, ne-eqb}
-use Rattle.wire.specs.Signed.{signedOf}
-use Rattle.wire.specs.SignedLaws.{word-signed}
+use Rattle.integers.specs.Signed.{signedOf}
+use Rattle.integers.specs.SignedLaws.{word-signed}
 use Rattle.wire.specs.Reader.{choose}
 use Rattle.tree.specs.Tree.{guard}
 use Rattle.access.specs.Record.{tableOf}

@@ -1,6 +1,6 @@
 // Document 01, "The order of judgement": the rules of steps 4 to 6.
 use access::Record;
-use wire::signed::signed;
+use integers::signed;
 ghost use mathlib.Core.Path.{_≡_};
 ghost use mathlib.Core.Option.{Option};
 ghost use Rattle.tree.specs.Tree.{guard};

@@ -9,8 +9,8 @@ use lib.Signed.{ltZ}
 use mir.Val.{sel}
 use borrow.Author.Tests.{ltb-false, le-ltb, lt-ltb, leb-true, leb-false, lt-leb}
 use Rattle.access.specs.Table.{both}
-use Rattle.wire.specs.Signed.{signedOf, wordOf}
-use Rattle.wire.specs.SignedLaws.{word-signed}
+use Rattle.integers.specs.Signed.{signedOf, wordOf}
+use Rattle.integers.specs.SignedLaws.{word-signed}
 
 abbrev pub zeroTo64 : ℤ → Bool
 zeroTo64 x = both (not (ltZ x (pos 0))) (not (ltZ (pos 64) x))

@@ -12,6 +12,7 @@ use access::record_good;
 use access_write::add_acl;
 use access_write::add_scope;
 use access_write::clear_table;
+use integers::signed;
 use lookups::parts::Part;
 use lookups::parts::num_of;
 use lookups::parts::open_at;
@@ -23,7 +24,6 @@ use permission_mask::with_permission;
 use requests::numbers::flag_of;
 use requests::numbers::number_or;
 use tree::Kind;
-use wire::signed::signed;
 
 // Whether the permissions of a scope are good, and if so their set.
 pub struct Permissions {

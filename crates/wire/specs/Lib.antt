@@ -6,5 +6,3 @@ pub mod Varint
 pub mod VarintLaws
 pub mod VarintAnswer
 pub mod FieldAnswer
-pub mod Signed
-pub mod SignedLaws

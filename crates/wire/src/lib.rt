@@ -1,4 +1,3 @@
-// Varints, fields and signed numbers of the Protocol Buffers encoding.
+// Varints and fields of the Protocol Buffers encoding.
 pub mod field;
-pub mod signed;
 pub mod varint;

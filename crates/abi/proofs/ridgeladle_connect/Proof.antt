@@ -4,7 +4,7 @@ use Prim.Native.Nat.{ℕ}
 use lib.Dec.{eqb}
 use mir.Syntax.{w64}
 use mir.Facts.{toZ-ofZ}
-use Rattle.wire.specs.Signed.{wordOf}
+use Rattle.integers.specs.Signed.{wordOf}
 use Rattle.connection_bytes.specs.Layout.{connectedBytes}
 use borrow.Author.Needs.{needs}
 use Rattle.abi.proofs.ridgeladle_connect.Statement.{statement}

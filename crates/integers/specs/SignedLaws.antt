@@ -5,7 +5,7 @@ use lib.IntN.{ℤ, pos, negsuc}
 use mir.Syntax.{w64}
 use mir.Val.{SFits}
 use mir.Facts.{toZ-ofZ, ofZ-toZ}
-use Rattle.wire.specs.Signed.{signedOf, wordOf}
+use Rattle.integers.specs.Signed.{signedOf, wordOf}
 
 pub word-signed : (v : ℕ) → v < 2 ^ 64 → wordOf (signedOf v) ≡ v
 word-signed v h = ofZ-toZ {w = w64} (record { fits = h })

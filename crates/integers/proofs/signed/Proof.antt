@@ -8,8 +8,8 @@ use lib.IntN.{ℤ, pos, negsuc, _-ℤ_}
 use mir.Syntax.{w64}
 use mir.Val.{toZ, ofZ, SFits}
 use mir.Facts.{toZ-pos, toZ-ofZ}
-use Rattle.wire.proofs.signed.signed.Statement.{statement}
-use Rattle.wire.proofs.signed.signed.Tie as tie
+use Rattle.integers.proofs.signed.Statement.{statement}
+use Rattle.integers.proofs.signed.Tie as tie
 
 minus : (w : ℕ) → negsuc 0 -ℤ pos w ≡ negsuc w
 minus zero = refl

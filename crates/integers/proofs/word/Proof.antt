@@ -1,4 +1,4 @@
--- `wire::signed::word` meets its contract: by the cases of the number.
+-- `integers::word` meets its contract: by the cases of the number.
 use Prim.Native.Nat.{ℕ, suc, _-_, _^_, _<_}
 use native.Mathlib.Omega.{arith}
 use mathlib.Core.Path.{_≡_, refl, sym, ap, _∙_, subst}
@@ -10,8 +10,8 @@ use lib.Signed.{ltZ, nonNeg}
 use mir.Syntax.{w64}
 use mir.Val.{toZ, ofZ, Fits, SFits}
 use mir.Facts.{toZ-ofZ}
-use Rattle.wire.proofs.signed.word.Statement.{statement}
-use Rattle.wire.proofs.signed.word.Tie as tie
+use Rattle.integers.proofs.word.Statement.{statement}
+use Rattle.integers.proofs.word.Tie as tie
 
 abbrev again : ℤ → ℤ
 again z = toZ w64 (ofZ w64 z)

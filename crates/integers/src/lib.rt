@@ -1,6 +1,6 @@
 // Signed numbers: 64-bit two's complement.
 ghost use mathlib.Core.Path.{_≡_};
-ghost use Rattle.wire.specs.Signed.{signedOf, wordOf};
+ghost use Rattle.integers.specs.Signed.{signedOf, wordOf};
 
 // The number that a word stands for.
 pub fn signed(v: u64) -> i64
