@@ -38,12 +38,12 @@ pub fn get_next(store: &[u8], key: &[u8]) -> Shown
     requires { ⌜ Good (now store) ⌝ }
     ensures { λ r. ⌜ Showing (now (store .entry)) r (λ s. entryThere s (nextIn (now (key .entry)) (entries s))) ⌝ }
 {
-    entry_shown(store, store::next(store, key))
+    entry_shown(store, store_search::next(store, key))
 }
 
 pub fn get_previous(store: &[u8], key: &[u8]) -> Shown
     requires { ⌜ Good (now store) ⌝ }
     ensures { λ r. ⌜ Showing (now (store .entry)) r (λ s. entryThere s (previousIn (now (key .entry)) (entries s))) ⌝ }
 {
-    entry_shown(store, store::previous(store, key))
+    entry_shown(store, store_search::previous(store, key))
 }

@@ -18,9 +18,9 @@ fn bound(store: &[u8], key: &[u8], inclusive: bool) -> usize
     ensures { λ r. ⌜ r ≡ choose inclusive (below (now (key .entry)) (entriesOf (now (store .entry)))) (upTo (now (key .entry)) (entriesOf (now (store .entry)))) ⌝ }
 {
     if inclusive {
-        return store::first_from(store, key);
+        return store_search::first_from(store, key);
     }
-    store::first_above(store, key)
+    store_search::first_above(store, key)
 }
 
 // The difference, 0 where it would be negative.

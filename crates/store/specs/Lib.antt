@@ -5,7 +5,6 @@ pub mod EntriesLaws
 pub mod Walk
 pub mod Check
 pub mod EntryAt
-pub mod Places
 pub mod Kept
 pub mod Readings
 pub mod Range

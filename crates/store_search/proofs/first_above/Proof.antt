@@ -1,12 +1,12 @@
 use Prim.Native.Nat.{_+_, _≤_}
 use native.Mathlib.Omega.{arith}
 use mathlib.Core.Path.{_∙_, ap, sym}
 use Rattle.store.specs.Store.{blocksIn}
 use Rattle.store.specs.Entries.{pastOf}
-use Rattle.store.specs.Places.{above-place}
+use Rattle.store_search.specs.Places.{above-place}
 use borrow.Author.Needs.{needs}
-use Rattle.store.proofs.first_above.Statement.{statement}
-use Rattle.store.proofs.first_above.Tie as tie
+use Rattle.store_search.proofs.first_above.Statement.{statement}
+use Rattle.store_search.proofs.first_above.Tie as tie
 
 -- the place past a key that was found is inside the store
 past : (c : tie.After-i) → c .i .given .0 .0 + 1 ≤ blocksIn (c .before .before .before .before .before .args .store .now)

@@ -1,10 +1,10 @@
 use native.Mathlib.Omega.{arith}
 use Rattle.block.specs.Decides.{says-no}
 use Rattle.store.specs.StoreLaws.{room}
-use Rattle.store.specs.Places.{has-place}
+use Rattle.store_search.specs.Places.{has-place}
 use borrow.Author.Needs.{needs}
-use Rattle.store.proofs.has.Statement.{statement}
-use Rattle.store.proofs.has.Tie as tie
+use Rattle.store_search.proofs.has.Statement.{statement}
+use Rattle.store_search.proofs.has.Tie as tie
 
 returns : tie.Need-returns
 returns c = λ g. says-no (λ p. let r = room (c .before .args .store .now) in omega arith)

@@ -1,7 +1,7 @@
-use Rattle.store.specs.Places.{next-is, next-is-none}
+use Rattle.store_search.specs.Places.{next-is, next-is-none}
 use borrow.Author.Needs.{needs}
-use Rattle.store.proofs.next.Statement.{statement}
-use Rattle.store.proofs.next.Tie as tie
+use Rattle.store_search.proofs.next.Statement.{statement}
+use Rattle.store_search.proofs.next.Tie as tie
 
 first-above-requires : tie.Need-first-above-requires
 first-above-requires c κs = search needs

@@ -1,9 +1,9 @@
 use mathlib.Core.Path.{_∙_, ap, sym}
 use Rattle.store.specs.Entries.{placeOf}
-use Rattle.store.specs.Places.{from-place}
+use Rattle.store_search.specs.Places.{from-place}
 use borrow.Author.Needs.{needs}
-use Rattle.store.proofs.first_from.Statement.{statement}
-use Rattle.store.proofs.first_from.Tie as tie
+use Rattle.store_search.proofs.first_from.Statement.{statement}
+use Rattle.store_search.proofs.first_from.Tie as tie
 
 find-requires : tie.Need-find-requires
 find-requires c κs = search needs

@@ -1,7 +1,7 @@
-use Rattle.store.specs.Places.{previous-is, previous-is-none}
+use Rattle.store_search.specs.Places.{previous-is, previous-is-none}
 use borrow.Author.Needs.{needs}
-use Rattle.store.proofs.previous.Statement.{statement}
-use Rattle.store.proofs.previous.Tie as tie
+use Rattle.store_search.proofs.previous.Statement.{statement}
+use Rattle.store_search.proofs.previous.Tie as tie
 
 first-from-requires : tie.Need-first-from-requires
 first-from-requires c κs = search needs
