@@ -21,7 +21,7 @@ use Rattle.protocol.specs.Judge.{algorithmsGood, broken, changeGood, deleteBy, 
 use Rattle.body_rules.specs.Passed.{put-passed, range-passed}
 use Rattle.requests.specs.declared.Body.{Body}
 use Rattle.requests.specs.Views.{bodyView, keyValueView, rangeView}
-use Rattle.security.specs.Security.{aclsIn}
+use Rattle.scopes.specs.Stands.{aclsIn}
 use Rattle.sending.specs.declared.Address.{Address}
 use Rattle.sending.specs.Sent.{Sent, replied}
 use Rattle.actions.proofs.Results.{sent-as}

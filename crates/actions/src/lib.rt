@@ -28,7 +28,7 @@ ghost use Rattle.protocol.specs.Judge.{fails, succeeds, shown, versionShown, en
 ghost use Rattle.queries.specs.declared.Shown.the-variants.{Found};
 ghost use Rattle.queries.specs.Given.{PartsInside, Showing, entryShown};
 ghost use Rattle.requests.specs.Views.{BodyLies, KeyValueLies, RangeLies, bodyView, keyValueView, rangeView};
-ghost use Rattle.security.specs.Security.{StandsSecurity, aclsIn};
+ghost use Rattle.scopes.specs.Stands.{StandsSecurity, aclsIn};
 ghost use Rattle.actions.specs.Sought.{sought};
 ghost use Rattle.sending.specs.Sent.{Sent, replied};
 

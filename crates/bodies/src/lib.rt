@@ -3,6 +3,7 @@ use body_rules::broken;
 use body_rules::fault;
 use body_rules::key_value_good;
 use body_rules::range_good;
+use hmac_algorithms::algorithms_good;
 use lookups::parts::Part;
 use protocol::Operation;
 use requests::Body;
@@ -10,7 +11,6 @@ use requests::KeyValue;
 use requests::Range;
 use requests::numbers::flag_of;
 use requests::numbers::number_or;
-use security::algorithms_good;
 use security::security_table;
 ghost use mathlib.Core.Path.{_≡_};
 ghost use mathlib.Core.List.{List};
@@ -20,7 +20,7 @@ ghost use Rattle.tree.specs.Tree.{guard};
 ghost use Rattle.protocol.specs.Judge.{fault, present, keyValueGood, changeGood, rangeGood};
 ghost use Rattle.body_rules.specs.Given.{securityFault};
 ghost use Rattle.requests.specs.Views.{BodyLies, KeyValueLies, RangeLies, bodyView, keyValueView, rangeView};
-ghost use Rattle.security.specs.Security.{StandsSecurity, aclsIn};
+ghost use Rattle.scopes.specs.Stands.{StandsSecurity, aclsIn};
 
 // Whether the keyValue is there and its lengths are right.
 fn key_value_right(keyed: bool, k: KeyValue) -> bool

@@ -18,9 +18,11 @@ use Rattle.lookups.specs.declared.parts.Part.{Part}
 use Rattle.lookups.proofs.Slotted.{length-at}
 use Rattle.protocol.specs.Command.{Scope, Acl, orElse, mapL}
 use Rattle.protocol.specs.Judge.{permissionsGood, aclRead, wantedScope, wantedAcl}
-use Rattle.security.specs.Security.{StandsAcl, aclIn, scopeTaken, scopesTaken, aclTaken, putOne, Makes}
-use Rattle.security.proofs.Walk.{both-false}
-use Rattle.security.proofs.Scopes.{level-at, or-empty, makes-no}
+use Rattle.scopes.specs.Stands.{StandsAcl, aclIn}
+use Rattle.scopes.specs.Scope.{scopeTaken}
+use Rattle.scopes.specs.Laws.{both-false, level-at, or-empty}
+use Rattle.security.specs.Security.{scopesTaken, aclTaken, putOne, Makes}
+use Rattle.security.proofs.Scopes.{makes-no}
 
 -- ---- written one after another
 abbrev pub putThem : ℕ → List ℕ → ℕ → List Scope → List ℕ

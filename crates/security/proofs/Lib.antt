@@ -1,4 +1,3 @@
-pub mod Walk
 pub mod Scopes
 pub mod Rests
 pub mod Acls

@@ -1,67 +1,29 @@
--- The walk over the messages of a repeated field, each judged and written.
+-- The walk over the messages of a repeated field, each judged and written at the next place.
 use Prim.Native.Nat.{ℕ, zero, suc, _+_, _≤_, _<_}
 use native.Mathlib.Omega.{arith}
-use mathlib.Core.Path.{_≡_, refl, sym, ap, ap₂, _∙_, subst}
+use mathlib.Core.Path.{_≡_, refl, sym, ap, ap₂, _∙_}
 use mathlib.Core.List.{List, [], _∷_}
 use mathlib.Core.Bool.{Bool, true, false, not}
 use lib.ListN.{length}
 use lib.Dec.{leb, ltb}
 use borrow.Author.Tests.{le-leb, lt-leb, lt-ltb}
 use Rattle.tree.specs.Rules.{ruleOf}
-use Rattle.tree.specs.Tree.{Tree, consIf, subsAt}
+use Rattle.tree.specs.Tree.{Tree, subsAt}
 use Rattle.tree.specs.declared.Kind.{Kind}
 use Rattle.tree.specs.declared.Form.the-variants.{Nested}
 use Rattle.tree.specs.declared.Rule.the-variants.{Repeated}
 use Rattle.access.specs.Table.{both, all, within}
-use Rattle.lookups.specs.Views.{Inside, bytesAt, treeOf}
-use Rattle.lookups.specs.Values.{partsIn, WellFramed, NextPartIs}
-use Rattle.lookups.specs.RepeatedLaws.{treesOf, AllRead, repeated-subs, repeated-reads, reads-framed}
+use Rattle.lookups.specs.Views.{bytesAt, treeOf}
+use Rattle.lookups.specs.Values.{NextPartIs}
 use Rattle.lookups.specs.declared.parts.Part.{Part}
 use Rattle.lookups.specs.declared.repeated.NextPart.{NextPart}
 use Rattle.protocol.specs.Command.{mapL}
-use Rattle.security.specs.Security.{Stands, fewTaken, Makes}
-use Rattle.security.proofs.Walk.{both-false}
+use Rattle.scopes.specs.Stands.{Stands}
+use Rattle.scopes.specs.Laws.{both-false}
+use Rattle.scopes.specs.Rests.{Rest, coming, rest-start, whole-is, rest-end, rest-next, rest-more}
+use Rattle.security.specs.Security.{fewTaken, Makes}
 use Rattle.security.proofs.Scopes.{makes-no}
 
--- ---- what is still to come
-pub record Rest (k : Kind) (num : ℕ) (s : List ℕ) (left : Part) : Type 0 where
-  pub inside : Inside s left
-  pub framed : WellFramed (bytesAt s left)
-  pub reads : AllRead k (partsIn num (bytesAt s left))
-
-module _ {A : Type 0} (k : Kind) (num : ℕ) (f : Tree → A) (s : List ℕ) where
-  abbrev pub coming : Part → List A
-  coming left = mapL f (treesOf k (partsIn num (bytesAt s left)))
-
-  pub rest-start : (kp : Kind) (p : Part) → Stands kp s p → ruleOf kp num ≡ Repeated (Nested k) → Rest k num s p
-  rest-start kp p y q = record { inside = y .inside; framed = reads-framed kp (bytesAt s p) (y .reads); reads = repeated-reads kp (bytesAt s p) (y .reads) num k q }
-
-  pub whole-is : (kp : Kind) (p : Part) → Stands kp s p → ruleOf kp num ≡ Repeated (Nested k) → mapL f (subsAt num (treeOf kp (bytesAt s p))) ≡ coming p
-  whole-is kp p y q = ap (mapL f) (repeated-subs kp (bytesAt s p) (y .reads) num k q)
-
-  module _ (left : Part) (w : Rest k num s left) (x : NextPart) (h : NextPartIs s left num x) where
-    parts : (b : Bool) → x .part .has ≡ b → partsIn num (bytesAt s left) ≡ consIf b (bytesAt s (x .part)) (partsIn num (bytesAt s (x .rest)))
-    parts b e = h .first (w .framed) ∙ ap (λ (b : Bool). consIf b (bytesAt s (x .part)) (partsIn num (bytesAt s (x .rest)))) e
-
-    pub rest-end : x .part .has ≡ false → coming left ≡ []
-    unfolding mapL
-    rest-end e = ap (λ (l : List (List ℕ)). mapL f (treesOf k l)) (parts false e ∙ h .last e)
-
-    module _ (e : x .part .has ≡ true) where
-      both-read : AllRead k (bytesAt s (x .part) ∷ partsIn num (bytesAt s (x .rest)))
-      both-read = subst (λ (l : List (List ℕ)). AllRead k l) (parts true e) (w .reads)
-
-      pub rest-stands : Stands k s (x .part)
-      rest-stands = record { inside = h .lies .inside; reads = both-read .0 }
-
-      pub rest-next : Rest k num s (x .rest)
-      rest-next = record { inside = h .inside; framed = h .framed (w .framed); reads = both-read .1 }
-
-      pub rest-more : coming left ≡ f (treeOf k (bytesAt s (x .part))) ∷ coming (x .rest)
-      unfolding mapL
-      rest-more = ap (λ (l : List (List ℕ)). mapL f (treesOf k l)) (parts true e)
-
--- ---- each judged, and written at the next place
 module _ {A : Type 0} (k : Kind) (num : ℕ) (f : Tree → A) (taken : A → Bool) (most : ℕ) (put : List ℕ → ℕ → List A → List ℕ) (one : List ℕ → ℕ → A → List ℕ) (s : List ℕ) (whole : List A) (first : List ℕ) where
   pub record Adding (left : Part) (out : List ℕ) (n : ℕ) : Type 0 where
     pub rest : Rest k num s left

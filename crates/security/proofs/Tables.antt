@@ -1,12 +1,10 @@
--- The whole table, and the algorithms.
+-- The whole table.
 use Prim.Native.Nat.{ℕ, _≤_}
 use native.Mathlib.Omega.{arith}
 use mathlib.Core.Path.{_≡_, refl, sym, ap, ap₂, _∙_}
 use mathlib.Core.List.{List, [], _∷_}
 use mathlib.Core.Bool.{Bool, true, false}
-use lib.ListN.{length, take, drop}
-use lib.Dec.{eqb}
-use Rattle.tree.specs.declared.Kind.the-variants as kind
+use lib.ListN.{length}
 use Rattle.access.specs.Table as access
 use Rattle.access.specs.Table.{both, all, within, findFrom, isNobody, aclGood, aclsGood, tableGood}
 use Rattle.access.specs.Record.{tableOf, tableBytes}
@@ -14,17 +12,11 @@ use Rattle.access.specs.Laws.{both-fst, both-snd, within-high}
 use Rattle.access.specs.Readback.{RoomyAcls, RoomyTable, roomy-acl, roomy-back}
 use Rattle.access_write.specs.Write.{emptyTable, putAcls}
 use Rattle.access_write.specs.Written.{table-written}
-use Rattle.lookups.specs.Views.{bytesAt}
-use Rattle.lookups.specs.Values.{partsIn, partsOf, NextPartIs}
-use Rattle.lookups.specs.RepeatedLaws.{treesOf}
-use Rattle.lookups.specs.declared.parts.Part.{Part}
-use Rattle.lookups.specs.declared.repeated.NextPart.{NextPart}
-use Rattle.lookups.proofs.Seeking.{no-values}
-use Rattle.protocol.specs.Command.{Acl, mapL, aclOf}
-use Rattle.protocol.specs.Judge.{aclRead, wantedAcl, wanted, securityGood, algorithmsGood}
-use Rattle.security.specs.Security.{StandsSecurity, aclIn, aclsIn, aclTaken, aclsTaken, Makes}
-use Rattle.security.proofs.Scopes.{never, makes-no}
-use Rattle.security.proofs.Rests.{Rest, coming, rest-start, whole-is, rest-end, rest-more, rest-next}
+use Rattle.protocol.specs.Command.{Acl, mapL}
+use Rattle.protocol.specs.Judge.{aclRead, wantedAcl, wanted, securityGood}
+use Rattle.scopes.specs.Laws.{never}
+use Rattle.security.specs.Security.{aclTaken, aclsTaken, Makes}
+use Rattle.security.proofs.Scopes.{makes-no}
 use Rattle.security.proofs.Acls.{length-map, all-map, all-both}
 
 -- ---- the rules of the table
@@ -88,45 +80,3 @@ table-made version acls h before out b o r q =
       answer = q ∙ ap (λ (l : List ℕ). tableGood (tableOf l)) is ∙ ap tableGood (roomy-back t room) ∙ same-rules version acls ∙ sym (judged acls (g .1));
       made = λ w. is;
     }
-
--- ---- the algorithms
-pub record Judging (s : List ℕ) (p left : Part) : Type 0 where
-  pub rest : Rest kind.Acl 2 s left
-  pub same : algorithmsGood (coming kind.Acl 2 aclOf s left) ≡ algorithmsGood (aclsIn s p)
-
-pub judging-start : (s : List ℕ) (p : Part) → StandsSecurity s p → Judging s p p
-judging-start s p y = record { rest = rest-start kind.Acl 2 aclOf s kind.Security p y refl; same = ap algorithmsGood (sym (whole-is kind.Acl 2 aclOf s kind.Security p y refl)) }
-
-no-acls : algorithmsGood [] ≡ true
-unfolding algorithmsGood all
-no-acls = refl
-
-first-acl : (a : Acl) (acls : List Acl) → algorithmsGood (a ∷ acls) ≡ both (eqb (a .hmacAlgorithm) 1) (algorithmsGood acls)
-unfolding algorithmsGood all
-first-acl a acls = refl
-
-empty-part : (s : List ℕ) (left : Part) → left .len ≤ 0 → bytesAt s left ≡ []
-unfolding bytesAt
-empty-part s left h = let z : left .len ≡ 0 = omega arith in ap (λ (n : ℕ). take n (drop (left .start) s)) z
-
-empty-coming : (s : List ℕ) (left : Part) → left .len ≤ 0 → coming kind.Acl 2 aclOf s left ≡ []
-unfolding mapL
-empty-coming s left h = ap (λ (b : List ℕ). mapL aclOf (treesOf kind.Acl (partsIn 2 b))) (empty-part s left h) ∙ ap (λ v. mapL aclOf (treesOf kind.Acl (partsOf v))) (no-values 2)
-
-module _ {s : List ℕ} {p left : Part} (w : Judging s p left) where
-  pub judging-empty : left .len ≤ 0 → true ≡ algorithmsGood (aclsIn s p)
-  judging-empty h = sym no-acls ∙ ap algorithmsGood (sym (empty-coming s left h)) ∙ w .same
-
-  module _ (x : NextPart) (h : NextPartIs s left 2 x) where
-    pub judging-end : x .part .has ≡ false → true ≡ algorithmsGood (aclsIn s p)
-    judging-end e = sym no-acls ∙ ap algorithmsGood (sym (rest-end kind.Acl 2 aclOf s left (w .rest) x h e)) ∙ w .same
-
-    module _ (e : x .part .has ≡ true) where
-      next : algorithmsGood (coming kind.Acl 2 aclOf s left) ≡ both (eqb (aclIn s (x .part) .hmacAlgorithm) 1) (algorithmsGood (coming kind.Acl 2 aclOf s (x .rest)))
-      next = ap algorithmsGood (rest-more kind.Acl 2 aclOf s left (w .rest) x h e) ∙ first-acl (aclIn s (x .part)) (coming kind.Acl 2 aclOf s (x .rest))
-
-      pub judging-other : eqb (aclIn s (x .part) .hmacAlgorithm) 1 ≡ false → false ≡ algorithmsGood (aclsIn s p)
-      judging-other n = sym (next ∙ ap (λ (b : Bool). both b (algorithmsGood (coming kind.Acl 2 aclOf s (x .rest)))) n) ∙ w .same
-
-      pub judging-on : eqb (aclIn s (x .part) .hmacAlgorithm) 1 ≡ true → Judging s p (x .rest)
-      judging-on n = record { rest = rest-next kind.Acl 2 aclOf s left (w .rest) x h e; same = sym (next ∙ ap (λ (b : Bool). both b (algorithmsGood (coming kind.Acl 2 aclOf s (x .rest)))) n) ∙ w .same }

@@ -1,7 +1,7 @@
 use mathlib.Core.Path.{_≡_}
 use denote.Ref.{now}
 use Rattle.protocol.specs.State.{State, withDevice}
-use Rattle.security.specs.Security.{aclsIn}
+use Rattle.scopes.specs.Stands.{aclsIn}
 use Rattle.actions.proofs.Results.{sent-as, secured}
 use borrow.Author.Needs.{needs}
 use Rattle.actions.proofs.secure.Statement.{statement}

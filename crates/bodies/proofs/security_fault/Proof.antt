@@ -2,7 +2,7 @@ use denote.Ref.{now}
 use borrow.Author.Needs.{needs}
 use borrow.Author.Tests.{not-true, not-false}
 use mathlib.Core.Path.{sym, _∙_}
-use Rattle.security.specs.Security.{aclsIn}
+use Rattle.scopes.specs.Stands.{aclsIn}
 use Rattle.bodies.proofs.Parts.{no-security, rules-broken, other-algorithm, security-right}
 use Rattle.bodies.proofs.security_fault.Statement.{statement}
 use Rattle.bodies.proofs.security_fault.Tie as tie

@@ -5,7 +5,8 @@ use borrow.Author.Tests.{not-true, not-false}
 use Rattle.tree.specs.declared.Kind.the-variants as kind
 use Rattle.lookups.specs.Views.{Level, bytesAt}
 use Rattle.lookups.proofs.Slotted.{level-sized, part-ready}
-use Rattle.security.proofs.Scopes.{level-at, slice-at, slice-short}
+use Rattle.scopes.specs.Laws.{level-at}
+use Rattle.security.proofs.Scopes.{slice-at, slice-short}
 use Rattle.security.proofs.Acls.{AclFacts, acl-facts, acl-nameless, acl-keyless, acl-long, acl-made}
 use borrow.Author.Needs.{needs}
 use Rattle.security.proofs.add_acl_from.Statement.{statement}

@@ -5,8 +5,10 @@ use denote.Ref.{now}
 use borrow.Author.Tests.{not-true, not-false}
 use Rattle.tree.specs.declared.Kind.the-variants as kind
 use Rattle.protocol.specs.Command.{aclOf}
-use Rattle.security.specs.Security.{aclsIn, aclTaken, aclsTaken, putOne}
-use Rattle.security.proofs.Rests.{Adding, adding-start, adding-none, adding-refused, adding-on, adding-end, rest-stands}
+use Rattle.scopes.specs.Stands.{aclsIn}
+use Rattle.scopes.specs.Rests.{rest-stands}
+use Rattle.security.specs.Security.{aclTaken, aclsTaken, putOne}
+use Rattle.security.proofs.Rests.{Adding, adding-start, adding-none, adding-refused, adding-on, adding-end}
 use Rattle.security.proofs.Acls.{putAll, all-nil, all-cons}
 use borrow.Author.Needs.{needs}
 use Rattle.security.proofs.add_acls.Statement.{statement}

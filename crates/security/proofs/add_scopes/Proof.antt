@@ -5,8 +5,11 @@ use denote.Ref.{now}
 use borrow.Author.Tests.{not-true, not-false}
 use Rattle.tree.specs.declared.Kind.the-variants as kind
 use Rattle.protocol.specs.Command.{scopeOf}
-use Rattle.security.specs.Security.{aclIn, scopeTaken, scopesTaken}
-use Rattle.security.proofs.Rests.{Adding, adding-start, adding-none, adding-refused, adding-on, adding-end, rest-stands}
+use Rattle.scopes.specs.Stands.{aclIn}
+use Rattle.scopes.specs.Scope.{scopeTaken}
+use Rattle.scopes.specs.Rests.{rest-stands}
+use Rattle.security.specs.Security.{scopesTaken}
+use Rattle.security.proofs.Rests.{Adding, adding-start, adding-none, adding-refused, adding-on, adding-end}
 use Rattle.security.proofs.Acls.{putThem, putIt, them-nil, them-cons}
 use borrow.Author.Needs.{needs}
 use Rattle.security.proofs.add_scopes.Statement.{statement}

@@ -1,7 +1,7 @@
 use mathlib.Core.Path.{_∙_, sym}
 use denote.Ref.{now}
 use borrow.Author.Tests.{not-true, not-false}
-use Rattle.security.specs.Security.{aclsIn}
+use Rattle.scopes.specs.Stands.{aclsIn}
 use Rattle.security.proofs.Tables.{table-refused, table-made}
 use borrow.Author.Needs.{needs}
 use Rattle.security.proofs.security_table.Statement.{statement}

@@ -3,10 +3,10 @@ use denote.Ref.{now}
 use borrow.Author.Tests.{not-true, not-false, eq-eqb, ne-eqb}
 use Rattle.tree.specs.declared.Kind.the-variants as kind
 use Rattle.protocol.specs.Command.{aclOf}
-use Rattle.security.proofs.Rests.{rest-stands}
-use Rattle.security.proofs.Tables.{Judging, judging-start, judging-empty, judging-end, judging-other, judging-on}
-use Rattle.security.proofs.algorithms_good.Statement.{statement}
-use Rattle.security.proofs.algorithms_good.Tie as tie
+use Rattle.scopes.specs.Rests.{rest-stands}
+use Rattle.hmac_algorithms.proofs.Algorithms.{Judging, judging-start, judging-empty, judging-end, judging-other, judging-on}
+use Rattle.hmac_algorithms.proofs.algorithms_good.Statement.{statement}
+use Rattle.hmac_algorithms.proofs.algorithms_good.Tie as tie
 
 abbrev Inv-loop : tie.InvT-loop
 Inv-loop s left₀ left = Judging s left₀ left

@@ -8,10 +8,11 @@ use borrow.Author.Tests.{not-true, not-false, leb-true}
 use Rattle.tree.specs.declared.Kind.the-variants as kind
 use Rattle.lookups.specs.Views.{Level, bytesAt}
 use Rattle.lookups.proofs.Slotted.{level-sized, part-ready}
-use Rattle.security.proofs.Scopes.{level-at, Facts, facts-of, scope-unnamed, scope-far, scope-long, scope-read}
+use Rattle.scopes.specs.Laws.{level-at}
+use Rattle.scopes.proofs.Facts.{Facts, facts-of, scope-unnamed, scope-far, scope-long, scope-read}
 use borrow.Author.Needs.{needs}
-use Rattle.security.proofs.read_scope.Statement.{statement}
-use Rattle.security.proofs.read_scope.Tie as tie
+use Rattle.scopes.proofs.read_scope.Statement.{statement}
+use Rattle.scopes.proofs.read_scope.Tie as tie
 
 level : (c : tie.After-open-at) → Level kind.Scope (bytesAt (now (c .before .before .args .s)) (c .before .before .args .p)) (c .open-at .result)
 level c = level-at (c .open-at .result) (c .before .before .pre) (c .open-at .ensures)

@@ -5,10 +5,10 @@ use mathlib.Core.Bool.{true}
 use denote.Ref.{now}
 use borrow.Author.Tests.{not-true, not-false}
 use Rattle.access.specs.Table.{named}
-use Rattle.security.proofs.Walk.{Walk, walk-start, walk-many, walk-end, walk-bad, walk-on, named-small}
+use Rattle.scopes.proofs.Walk.{Walk, walk-start, walk-many, walk-end, walk-bad, walk-on, named-small}
 use borrow.Author.Needs.{needs}
-use Rattle.security.proofs.permissions_of.Statement.{statement}
-use Rattle.security.proofs.permissions_of.Tie as tie
+use Rattle.scopes.proofs.permissions_of.Statement.{statement}
+use Rattle.scopes.proofs.permissions_of.Tie as tie
 
 abbrev Inv-loop : tie.InvT-loop
 Inv-loop s left₀ mask₀ n₀ left mask n = Walk s left₀ left mask n

@@ -5,10 +5,10 @@ use Rattle.tree.specs.declared.Kind.the-variants as kind
 use Rattle.lookups.specs.Views.{Level, bytesAt}
 use Rattle.lookups.proofs.Slotted.{level-sized}
 use Rattle.protocol.specs.Command.{orElse}
-use Rattle.security.proofs.Scopes.{level-at}
+use Rattle.scopes.specs.Laws.{level-at}
 use borrow.Author.Needs.{needs}
-use Rattle.security.proofs.algorithm_of.Statement.{statement}
-use Rattle.security.proofs.algorithm_of.Tie as tie
+use Rattle.hmac_algorithms.proofs.algorithm_of.Statement.{statement}
+use Rattle.hmac_algorithms.proofs.algorithm_of.Tie as tie
 
 level : (c : tie.After-open-at) → Level kind.Acl (bytesAt (now (c .before .before .args .s)) (c .before .before .args .p)) (c .open-at .result)
 level c = level-at (c .open-at .result) (c .before .before .pre) (c .open-at .ensures)

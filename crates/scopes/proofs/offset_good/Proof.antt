@@ -1,8 +1,8 @@
 use mathlib.Core.Path.{refl}
-use Rattle.security.specs.Offset.{offset-tested}
+use Rattle.scopes.specs.Offset.{offset-tested}
 use borrow.Author.Needs.{needs}
-use Rattle.security.proofs.offset_good.Statement.{statement}
-use Rattle.security.proofs.offset_good.Tie as tie
+use Rattle.scopes.proofs.offset_good.Statement.{statement}
+use Rattle.scopes.proofs.offset_good.Tie as tie
 
 signed-requires : tie.Need-signed-requires
 signed-requires c κs = search needs

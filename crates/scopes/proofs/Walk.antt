@@ -19,10 +19,12 @@ use Rattle.lookups.specs.declared.parts.Part.{Part}
 use Rattle.lookups.specs.declared.repeated.NextNum.{NextNum}
 use Rattle.protocol.specs.Command.{Scope}
 use Rattle.protocol.specs.Judge.{permissionsGood}
-use Rattle.security.specs.Security.{StandsScope, scopeIn, PermissionsAre, noPermissions}
-use Rattle.security.specs.declared.Permissions.{Permissions}
+use Rattle.scopes.specs.Stands.{StandsScope, scopeIn}
+use Rattle.scopes.specs.Scope.{PermissionsAre, noPermissions}
+use Rattle.scopes.specs.Laws.{both-false}
+use Rattle.scopes.specs.declared.Permissions.{Permissions}
 
-pub all-append : {A : Type 0} (f : A → Bool) (xs ys : List A) → all f (xs ++ ys) ≡ both (all f xs) (all f ys)
+all-append : {A : Type 0} (f : A → Bool) (xs ys : List A) → all f (xs ++ ys) ≡ both (all f xs) (all f ys)
 unfolding all
 all-append f [] ys = refl
 all-append f (x ∷ xs) ys = go (f x) (all-append f xs ys)
@@ -30,10 +32,6 @@ all-append f (x ∷ xs) ys = go (f x) (all-append f xs ys)
     go : (b : Bool) → all f (xs ++ ys) ≡ both (all f xs) (all f ys) → both b (all f (xs ++ ys)) ≡ both (both b (all f xs)) (all f ys)
     go true e = e
     go false e = refl
-
-pub both-false : (x : Bool) → both x false ≡ false
-both-false true = refl
-both-false false = refl
 
 pub record Walk (s : List ℕ) (p left : Part) (mask n : ℕ) : Type 0 where
   pub inside : Inside s left
