@@ -1,23 +1,18 @@
 -- Steps 3 to 10, exit by exit: the result of each is what the definitions say, and what was sent is the reply with it.
 use mathlib.Core.Path.{_≡_, refl, sym, ap, subst, _∙_}
-use mathlib.Core.Bool.{Bool, true, false, not}
+use mathlib.Core.Bool.{Bool, true, false}
 use mathlib.Core.List.{List}
 use mathlib.Core.Option.{Option, none, some}
-use Prim.Native.Nat.{ℕ, _+_, _-_, _^_, _<_}
-use native.Mathlib.Omega.{arith}
+use Prim.Native.Nat.{ℕ}
 use lib.Dec.{eqb}
-use lib.ListN.{length, take, drop}
-use mir.Syntax.{w64}
-use mir.Val.{Fits}
-use borrow.Author.Tests.{eq-eqb, ne-eqb, not-false, not-true}
+use borrow.Author.Tests.{eq-eqb, ne-eqb}
 use Rattle.wire.specs.Reader.{choose}
 use Rattle.tree.specs.Tree.{Tree, guard, mapO}
 use Rattle.access.specs.Table as access
 use Rattle.access.specs.Table.{placeOf}
 use Rattle.access.specs.declared.Found.the-variants.{At}
-use Rattle.lookups.specs.Views.{Inside, numView}
+use Rattle.lookups.specs.Views.{numView}
 use Rattle.lookups.specs.declared.parts.Num.{Num}
-use Rattle.lookups.specs.declared.parts.Part.{Part}
 use Rattle.protocol.specs.declared.Operation.{Operation}
 use Rattle.protocol.specs.declared.Asked.{Asked}
 use Rattle.protocol.specs.declared.Asked.the-variants.{Request, NotBuilt}
@@ -25,19 +20,17 @@ use Rattle.protocol.specs.State.{State, Connection, accepted, heard, lent, tabl
 use Rattle.protocol.specs.Command as c
 use Rattle.protocol.specs.Command.{orElse, commandOf}
 use Rattle.protocol.specs.Operation.{askedBy, replyType}
-use Rattle.protocol.specs.Judge.{Result, fails, fault, permitted, step7, step8, step9, step10, judge}
+use Rattle.protocol.specs.Judge.{Result, fails, step7, step10, judge}
 use Rattle.protocol.specs.Reply.{commandTree, signedReply}
 use Rattle.protocol.specs.Reading.{decoded}
 use Rattle.protocol.specs.Answer.{Reply, reply, respond}
 use Rattle.protocol.specs.Box.{box, aclAt, decide, invalid, judged, sequenceOf, told, typeOf}
-use Rattle.requests.specs.declared.Body.{Body}
 use Rattle.requests.specs.declared.Header.{Header}
-use Rattle.requests.specs.Views.{BodyLies, bodyView, headerView}
+use Rattle.requests.specs.Views.{headerView}
 use Rattle.encoding.specs.Basics.{never}
-use Rattle.security.proofs.Scopes.{slice-at}
-use Rattle.permission_rules.specs.Given.{Keys}
 use Rattle.judgement.specs.Given.{Heard, headerFault, headerThere, idIn, sequenceIn}
-use Rattle.judgement.specs.Steps.{judge-by, rest, sequenceHeard, typeIn}
+use Rattle.judgement.specs.Steps.{judge-by, served, rest, sequenceHeard, typeIn}
+use Rattle.admission.specs.Admission.{admission, served-by}
 use Rattle.sending.specs.declared.Address.{Address}
 use Rattle.sending.specs.Sent.{Sent, replied}
 
@@ -54,39 +47,15 @@ passed s next {m} e = rw (eq-eqb m 0 e)
 
 -- ---- steps 8 to 10
 
--- the keys of a body, as the code cuts them out
-abbrev cut : List ℕ → Part → List ℕ
-cut s p = take (p .start + p .len - p .start) (drop (p .start) s)
+module _ (s : State) (acl : access.Acl) (o : Operation) (b : c.Body) (v : List ℕ) (a : Address) (by : List ℕ) (n : ℕ) (out out' : List ℕ) (p : Bool) (w : s .connection .protected ≡ p) (code : ℕ) (f : code ≡ admission acl p o b v) where
+  by-code : code ≡ admission acl (s .connection .protected) o b v
+  by-code = f ∙ ap (λ (p : Bool). admission acl p o b v) (sym w)
 
-pub end-fits : (s : List ℕ) (p : Part) → length s < 2 ^ 64 → Inside s p → Fits w64 (p .start + p .len)
-end-fits s p h i = record { fits = omega arith }
+  pub not-admitted : (code ≡ 0 → ⊥) → Sent (replied a by (fails s code)) n out out' s → Sent (replied a by (served s acl o b v)) n out out' s
+  not-admitted h g = sent-as a by (fails s code) (served s acl o b v) (failed s (step10 s o b v) code by-code h ∙ sym (served-by s acl o b v)) g
 
-pub keys-cut : (s : List ℕ) (b : Body) → BodyLies s b → Keys (bodyView s b) (cut s (b .entry .key)) (cut s (b .range .start)) (cut s (b .range .end))
-keys-cut s b l =
-    record {
-      key = l .key ∙ sym (slice-at s (b .entry .key));
-      start = l .start ∙ sym (slice-at s (b .range .start));
-      end = l .end ∙ sym (slice-at s (b .range .end));
-    }
-
-abbrev served : State → access.Acl → Operation → c.Body → List ℕ → Result
-served s acl o b v = step8 s o b v (step9 s acl o b (step10 s o b v))
-
-module _ (s : State) (acl : access.Acl) (o : Operation) (b : c.Body) (v : List ℕ) (a : Address) (by : List ℕ) (n : ℕ) (out out' : List ℕ) (code : ℕ) (f : code ≡ fault o b v) where
-  pub faulty : (code ≡ 0 → ⊥) → Sent (replied a by (fails s code)) n out out' s → Sent (replied a by (served s acl o b v)) n out out' s
-  faulty h g = sent-as a by (fails s code) (served s acl o b v) (failed s (step9 s acl o b (step10 s o b v)) code f h) g
-
-  module _ (z : code ≡ 0) (p r : Bool) (w : s .connection .protected ≡ p) (e : r ≡ permitted acl p o b) where
-    chosen : (x : Bool) → r ≡ x → choose x (step10 s o b v) (fails s 3) ≡ served s acl o b v
-    chosen x q =
-        ap (λ (x : Bool). choose x (step10 s o b v) (fails s 3)) (sym q ∙ e ∙ ap (λ (p : Bool). permitted acl p o b) (sym w))
-        ∙ passed s (step9 s acl o b (step10 s o b v)) (sym f ∙ z)
-
-    pub forbidden : not r ≡ true → Sent (replied a by (fails s 3)) n out out' s → Sent (replied a by (served s acl o b v)) n out out' s
-    forbidden q g = sent-as a by (fails s 3) (served s acl o b v) (chosen false (not-true r q)) g
-
-    pub allowed : not r ≡ false → (after : State) → Sent (replied a by (step10 s o b v)) n out out' after → Sent (replied a by (served s acl o b v)) n out out' after
-    allowed q after g = sent-as a by (step10 s o b v) (served s acl o b v) (chosen true (not-false r q)) g
+  pub done : code ≡ 0 → (after : State) → Sent (replied a by (step10 s o b v)) n out out' after → Sent (replied a by (served s acl o b v)) n out out' after
+  done z after g = sent-as a by (step10 s o b v) (served s acl o b v) (passed s (step10 s o b v) (sym by-code ∙ z) ∙ sym (served-by s acl o b v)) g
 
 -- ---- step 7
 

@@ -57,23 +57,9 @@ fn serve(
     requires { ⌜ (4096 ≤ length (now out)) × (length (now by) ≤ 64) × Good (now store) × Placed (now device) place × BodyLies (now s) b ⌝ }
     ensures { λ r. ⌜ ((c : state.Connection) → c .protected ≡ protected → Sent (replied a (now (by .entry)) (served (lent (now (store .entry)) (now (device .entry)) c) (aclOf (tableOf (now (device .entry))) place) o (bodyView (now (s .entry)) b) (now (value .entry)))) r (now (out .entry)) (now (out .exit)) (lent (now (store .exit)) (now (device .exit)) c)) ⌝ }
 {
-    let fault = bodies::body_fault(o, s, b, value.len());
-    if fault != 0 {
-        return sending::status(out, by, a, fault);
-    }
-    let key = b.entry.key.start;
-    let start = b.range.start.start;
-    let end = b.range.end.start;
-    if !permission_rules::permitted(
-        device,
-        place,
-        protected,
-        o,
-        &s[key..key + b.entry.key.len],
-        &s[start..start + b.range.start.len],
-        &s[end..end + b.range.end.len],
-    ) {
-        return sending::status(out, by, a, 3);
+    let refusal = admission::admit(o, device, place, protected, s, b, value.len());
+    if refusal != 0 {
+        return sending::status(out, by, a, refusal);
     }
     actions::perform(o, store, device, s, b, value, out, by, a)
 }
