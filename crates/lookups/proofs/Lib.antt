@@ -1,3 +1,4 @@
 pub mod Slotted
+pub mod Levels
 pub mod Seeking
 pub mod Nexts

@@ -23,8 +23,8 @@ use Rattle.encoding.specs.Basics.{never}
 use Rattle.writers.specs.Pushed.{Starts}
 use Rattle.security.proofs.Scopes.{slice-at}
 use Rattle.lookups.specs.Views.{bytesAt as bytesIn}
-use Rattle.requests.specs.declared.message.Sealed.{Sealed}
-use Rattle.requests.specs.Messages.{sealedView}
+use Rattle.messages.specs.declared.Sealed.{Sealed}
+use Rattle.messages.specs.Messages.{sealedView}
 use Rattle.protocol.specs.State.{State, table}
 use Rattle.protocol.specs.Reading as reading
 use Rattle.protocol.specs.Reading.{Envelope, envelope, readMessage, readingBy, sameBytes, decoded, verified, opened}

@@ -85,7 +85,7 @@ pub fn respond(
     requires { ⌜ (4096 ≤ length (now out)) × Good (now store) × (tableGood (tableOf (now device)) ≡ true) × (length (now message) ≤ 8192) ⌝ }
     ensures { λ r. ⌜ Sent (respond box (lent (now (store .entry)) (now (device .entry)) (connectionOf connection)) (now (value .entry)) (reading box (lent (now (store .entry)) (now (device .entry)) (connectionOf connection)) (now (message .entry)))) (r .written) (now (out .entry)) (now (out .exit)) (lent (now (store .exit)) (now (device .exit)) (connectionOf (r .connection))) ⌝ }
 {
-    let m = requests::message::read_message(message);
+    let m = messages::read_message(message);
     let ok = m.ok;
     if !ok {
         return close(connection, out, 20);

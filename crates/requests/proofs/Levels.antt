@@ -1,23 +1,19 @@
 -- One law for each level.
-use Prim.Native.Nat.{ℕ, _≤_, _<_}
+use Prim.Native.Nat.{ℕ, _≤_}
 use native.Mathlib.Omega.{arith}
 use mathlib.Core.Path.{_≡_, refl, sym, ap, _∙_}
 use mathlib.Core.List.{List, []}
 use mathlib.Core.Option.{Option, none, some}
 use mathlib.Core.Bool.{true, false}
-use Rattle.tree.specs.Rules.{ruleOf}
-use Rattle.tree.specs.Tree.{mapO, guard, isSome, level, listed, Tree, done, subAt}
-use Rattle.fields.specs.Slots.{Tells, Sized}
+use Rattle.tree.specs.Tree.{mapO, guard, isSome, listed, Tree, done, subAt}
 use Rattle.tree.specs.declared.Kind.{Kind}
 use Rattle.tree.specs.declared.Kind.the-variants as k
-use Rattle.tree.specs.declared.Form.the-variants.{Nested}
-use Rattle.tree.specs.declared.Rule.the-variants.{Single}
 use Rattle.fields.specs.declared.slots.Slots.{Slots}
-use Rattle.lookups.specs.Views.{orDone, orEmpty, Reads, treeOf, bytesAt, numView, partView, noPart, Inside, Lies, Level, SlotInside, NumIs, PartIs, Sub}
+use Rattle.lookups.specs.Views.{orDone, orEmpty, Reads, treeOf, bytesAt, numView, partView, noPart, Lies, Level, NumIs, PartIs, Sub}
 use Rattle.lookups.specs.LevelLaws.{tree-is}
 use Rattle.lookups.specs.declared.parts.Num.{Num}
 use Rattle.lookups.specs.declared.parts.Part.{Part}
-use Rattle.lookups.proofs.Slotted.{isPart, level-sized, part-ready, sub-view, nil-at, nil-reads}
+use Rattle.lookups.proofs.Slotted.{sub-view, nil-at, nil-reads}
 use Rattle.protocol.specs.Command.{orElse, noBody, headerOf, keyValueOf, rangeOf, setupOf, securityOf, bodyOf, commandOf}
 use Rattle.protocol.specs.Judge.{noKeyValue, noRange}
 use Rattle.requests.proofs.Algorithm.{algorithm-most}
@@ -27,23 +23,6 @@ use Rattle.requests.specs.declared.KeyValue.{KeyValue}
 use Rattle.requests.specs.declared.Range.{Range}
 use Rattle.requests.specs.declared.Body.{Body}
 use Rattle.requests.specs.declared.Request.{Request}
-
--- a level in a part: what its look-ups ask, and the message that one of them gives
-module _ (k : Kind) (s : List ℕ) (p : Part) (t : Slots) (h : Tells k (bytesAt s p) t (level k (bytesAt s p))) (y : Inside s p × Reads k (bytesAt s p)) where
-  pub level-at : Level k (bytesAt s p) t
-  level-at = record { tells = h; reads = y .1 }
-
-  pub sized-at : Sized t
-  sized-at = level-sized k (bytesAt s p) t level-at
-
-  pub part-at : (n : ℕ) → n < 16 → isPart (ruleOf k n) ≡ true → (n < 16) × Sized t × Inside s p × SlotInside (bytesAt s p) t n
-  part-at n l e = part-ready k s p t level-at (y .0) n l e
-
-  pub sub-at : (n : ℕ) (k' : Kind) → ruleOf k n ≡ Single (Nested k') → (r : Part) → PartIs s p t n r → Sub k' s r (subAt n (treeOf k (bytesAt s p)))
-  sub-at n k' q r e = e .message k k' level-at q
-
-  pub sub-reads : (n : ℕ) (k' : Kind) → ruleOf k n ≡ Single (Nested k') → (r : Part) → PartIs s p t n r → Inside s r × Reads k' (bytesAt s r)
-  sub-reads n k' q r e = (e .lies .inside, sub-at n k' q r e .reads)
 
 module _ (s : List ℕ) (p : Part) (t : Slots) where
   pub header-law : Level k.Header (bytesAt s p) t → (a1 a3 a4 a7 : Num) → NumIs t 1 a1 → NumIs t 3 a3 → NumIs t 4 a4 → NumIs t 7 a7

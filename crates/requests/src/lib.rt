@@ -1,5 +1,4 @@
-// A message and a command by value: what their fields say, and where their parts lie.
-pub mod message;
+// A command by value: what its fields say, and where its parts lie.
 pub mod numbers;
 
 ghost use mathlib.Core.Path.{_≡_};

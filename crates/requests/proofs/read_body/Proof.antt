@@ -5,7 +5,8 @@ use borrow.Author.Needs.{needs}
 use Rattle.tree.specs.declared.Kind.the-variants as k
 use Rattle.tree.specs.Tree.{subAt}
 use Rattle.lookups.specs.Views.{bytesAt, treeOf}
-use Rattle.requests.proofs.Levels.{body-law, end-there, key-there, part-at, start-there, sub-at, sub-reads}
+use Rattle.lookups.proofs.Levels.{part-at, sub-at, sub-reads}
+use Rattle.requests.proofs.Levels.{body-law, end-there, key-there, start-there}
 use Rattle.requests.proofs.read_body.Statement.{statement}
 use Rattle.requests.proofs.read_body.Tie as tie
 

@@ -4,7 +4,8 @@ use mathlib.Core.Path.{refl}
 use borrow.Author.Needs.{needs}
 use Rattle.tree.specs.declared.Kind.the-variants as k
 use Rattle.lookups.specs.Views.{bytesAt}
-use Rattle.requests.proofs.Levels.{command-law, part-at, sub-at, sub-reads}
+use Rattle.lookups.proofs.Levels.{part-at, sub-at, sub-reads}
+use Rattle.requests.proofs.Levels.{command-law}
 use Rattle.requests.proofs.read_command.Statement.{statement}
 use Rattle.requests.proofs.read_command.Tie as tie
 

@@ -2,7 +2,8 @@ use denote.Ref.{now}
 use native.Mathlib.Omega.{arith}
 use borrow.Author.Needs.{needs}
 use Rattle.tree.specs.declared.Kind.the-variants as k
-use Rattle.requests.proofs.Levels.{header-law, level-at, sized-at}
+use Rattle.lookups.proofs.Levels.{level-at, sized-at}
+use Rattle.requests.proofs.Levels.{header-law}
 use Rattle.requests.proofs.read_header.Statement.{statement}
 use Rattle.requests.proofs.read_header.Tie as tie
 

@@ -3,7 +3,8 @@ use native.Mathlib.Omega.{arith}
 use mathlib.Core.Path.{refl}
 use borrow.Author.Needs.{needs}
 use Rattle.tree.specs.declared.Kind.the-variants as k
-use Rattle.requests.proofs.Levels.{algorithm-law, key-value-law, level-at, part-at, sized-at}
+use Rattle.lookups.proofs.Levels.{level-at, part-at, sized-at}
+use Rattle.requests.proofs.Levels.{algorithm-law, key-value-law}
 use Rattle.requests.proofs.read_key_value.Statement.{statement}
 use Rattle.requests.proofs.read_key_value.Tie as tie
 

@@ -3,7 +3,8 @@ use native.Mathlib.Omega.{arith}
 use mathlib.Core.Path.{refl}
 use borrow.Author.Needs.{needs}
 use Rattle.tree.specs.declared.Kind.the-variants as k
-use Rattle.requests.proofs.Levels.{level-at, part-at, range-law, sized-at}
+use Rattle.lookups.proofs.Levels.{level-at, part-at, sized-at}
+use Rattle.requests.proofs.Levels.{range-law}
 use Rattle.requests.proofs.read_range.Statement.{statement}
 use Rattle.requests.proofs.read_range.Tie as tie
 

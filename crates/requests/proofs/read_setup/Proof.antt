@@ -4,7 +4,7 @@ use mathlib.Core.Path.{refl}
 use borrow.Author.Needs.{needs}
 use Rattle.tree.specs.declared.Kind.the-variants as k
 use Rattle.lookups.specs.Views.{bytesAt}
-use Rattle.requests.proofs.Levels.{level-at, sized-at}
+use Rattle.lookups.proofs.Levels.{level-at, sized-at}
 use Rattle.requests.proofs.read_setup.Statement.{statement}
 use Rattle.requests.proofs.read_setup.Tie as tie
 

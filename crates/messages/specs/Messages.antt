@@ -6,7 +6,7 @@ use Prim.Native.Nat.{ℕ}
 use Rattle.tree.specs.Tree.{guard}
 use Rattle.lookups.specs.Views.{bytesAt, Lies}
 use Rattle.protocol.specs.Reading.{Envelope, envelope}
-use Rattle.requests.specs.declared.message.Sealed.{Sealed}
+use Rattle.messages.specs.declared.Sealed.{Sealed}
 
 -- an hmac that is not there is an empty part: "Absent bytes are empty"
 abbrev pub sealedView : List ℕ → Sealed → Option Envelope

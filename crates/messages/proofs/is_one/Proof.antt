@@ -1,7 +1,7 @@
 use borrow.Author.Needs.{needs}
-use Rattle.requests.proofs.Sealing.{one-law}
-use Rattle.requests.proofs.message.is_one.Statement.{statement}
-use Rattle.requests.proofs.message.is_one.Tie as tie
+use Rattle.messages.proofs.Sealing.{one-law}
+use Rattle.messages.proofs.is_one.Statement.{statement}
+use Rattle.messages.proofs.is_one.Tie as tie
 
 returns : tie.Need-returns
 returns c = one-law (c .before .before .args .n) (c .before .if1 .taken)

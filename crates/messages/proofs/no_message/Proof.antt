@@ -1,7 +1,7 @@
 use mathlib.Core.Path.{refl}
 use Rattle.lookups.proofs.Slotted.{lies-no}
-use Rattle.requests.proofs.message.no_message.Statement.{statement}
-use Rattle.requests.proofs.message.no_message.Tie as tie
+use Rattle.messages.proofs.no_message.Statement.{statement}
+use Rattle.messages.proofs.no_message.Tie as tie
 
 returns : tie.Need-returns
 returns c = (refl, λ s. record { hmac = lies-no s; command = lies-no s })

@@ -4,9 +4,9 @@ use mathlib.Core.Path.{refl}
 use borrow.Author.Needs.{needs}
 use Rattle.tree.specs.declared.Kind.the-variants as k
 use Rattle.lookups.specs.Views.{bytesAt}
-use Rattle.requests.proofs.Levels.{level-at, part-at, sized-at}
-use Rattle.requests.proofs.message.read_auth.Statement.{statement}
-use Rattle.requests.proofs.message.read_auth.Tie as tie
+use Rattle.lookups.proofs.Levels.{level-at, part-at, sized-at}
+use Rattle.messages.proofs.read_auth.Statement.{statement}
+use Rattle.messages.proofs.read_auth.Tie as tie
 
 open-at-requires : tie.Need-open-at-requires
 open-at-requires c κs = search needs

@@ -15,9 +15,9 @@ use Rattle.lookups.specs.LevelLaws.{tree-is}
 use Rattle.lookups.specs.declared.parts.Num.{Num}
 use Rattle.lookups.specs.declared.parts.Part.{Part}
 use Rattle.protocol.specs.Reading.{envelope, orEmpty, sealed, isOne, envelopeOf, readMessage}
-use Rattle.requests.specs.Messages.{sealedView}
-use Rattle.requests.specs.declared.message.Auth.{Auth}
-use Rattle.requests.specs.declared.message.Sealed.{Sealed}
+use Rattle.messages.specs.Messages.{sealedView}
+use Rattle.messages.specs.declared.Auth.{Auth}
+use Rattle.messages.specs.declared.Sealed.{Sealed}
 
 pub one-law : (n : Num) → n .has ≡ true → eqb (n .value) 1 ≡ isOne (numView n)
 one-law n e = sym (ap (λ b. isOne (guard b (n .value))) e)

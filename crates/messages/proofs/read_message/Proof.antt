@@ -6,9 +6,9 @@ use mathlib.Core.Path.{sym, ap, _∙_}
 use Rattle.tree.specs.Tree.{isSome, listed}
 use Rattle.protocol.specs.Reading.{readMessage}
 use Rattle.lookups.proofs.Slotted.{whole-bytes}
-use Rattle.requests.proofs.Sealing.{unsealed}
-use Rattle.requests.proofs.message.read_message.Statement.{statement}
-use Rattle.requests.proofs.message.read_message.Tie as tie
+use Rattle.messages.proofs.Sealing.{unsealed}
+use Rattle.messages.proofs.read_message.Statement.{statement}
+use Rattle.messages.proofs.read_message.Tie as tie
 
 reads-requires : tie.Need-reads-requires
 reads-requires c κs = search needs

@@ -7,7 +7,7 @@ ghost use Rattle.wire.specs.Reader.{choose};
 ghost use Rattle.tree.specs.Tree.{intAt, rawAt};
 ghost use Rattle.lookups.specs.Views.{Inside, Lies, Reads, bytesAt, numView, partView, treeOf};
 ghost use Rattle.protocol.specs.Reading.{isOne, readMessage};
-ghost use Rattle.requests.specs.Messages.{SealedLies, sealedView};
+ghost use Rattle.messages.specs.Messages.{SealedLies, sealedView};
 use fields::nested::reads;
 use lookups::parts::Num;
 use lookups::parts::Part;

@@ -4,10 +4,10 @@ use mathlib.Core.Path.{refl}
 use borrow.Author.Needs.{needs}
 use Rattle.tree.specs.declared.Kind.the-variants as k
 use Rattle.lookups.specs.Views.{bytesAt}
-use Rattle.requests.proofs.Levels.{level-at, part-at, sized-at, sub-at, sub-reads}
-use Rattle.requests.proofs.Sealing.{sealed-law}
-use Rattle.requests.proofs.message.read_sealed.Statement.{statement}
-use Rattle.requests.proofs.message.read_sealed.Tie as tie
+use Rattle.lookups.proofs.Levels.{level-at, part-at, sized-at, sub-at, sub-reads}
+use Rattle.messages.proofs.Sealing.{sealed-law}
+use Rattle.messages.proofs.read_sealed.Statement.{statement}
+use Rattle.messages.proofs.read_sealed.Tie as tie
 
 open-at-requires : tie.Need-open-at-requires
 open-at-requires c κs = search needs
