@@ -24,7 +24,7 @@ use Rattle.requests.specs.Views.{bodyView, keyValueView, rangeView}
 use Rattle.scopes.specs.Stands.{aclsIn}
 use Rattle.sending.specs.declared.Address.{Address}
 use Rattle.sending.specs.Sent.{Sent, replied}
-use Rattle.actions.proofs.Results.{sent-as}
+use Rattle.showing.specs.Results.{sent-as}
 
 never : {A : Type 0} → false ≡ true → A
 never e = absurd (let z : _≡_ {A = ℕ} 0 1 = cc in omega arith)

@@ -1,34 +1,22 @@
--- Replies that were sent, by the results that they say.
+-- Replies of what changes the store or the record, by the results that they say.
 use mathlib.Core.Path.{_≡_, sym, ap, _∙_, subst}
 use mathlib.Core.Bool.{Bool, true, false}
 use mathlib.Core.List.{List, []}
-use mathlib.Core.Option.{Option}
 use Prim.Native.Nat.{ℕ}
 use lib.Dec.{eqb}
 use borrow.Author.Tests.{eq-eqb, ne-eqb}
 use Rattle.wire.specs.Reader.{choose}
-use Rattle.tree.specs.Tree.{guard}
-use Rattle.writers.specs.Pushed.{Starts}
 use Rattle.access.specs.Record.{tableBytes, tableOf}
 use Rattle.protocol.specs.State.{State, withDevice, withStore}
 use Rattle.protocol.specs.Command.{Acl}
 use Rattle.protocol.specs.Judge.{Result, bare, changed, fails, secure, securityGood, succeeds, wanted}
-use Rattle.protocol.specs.Reply.{commandTree, signedReply}
 use Rattle.operations.specs.Given.{Changed}
 use Rattle.security.specs.Security.{Makes}
 use Rattle.sending.specs.declared.Address.{Address}
 use Rattle.sending.specs.Sent.{Sent, replied}
-use Rattle.sending.specs.SentLaws.{sends}
+use Rattle.showing.specs.Results.{sent-as}
 
 module _ (a : Address) (by : List ℕ) {n : ℕ} {out out' : List ℕ} where
-  pub sent-as : {x y : Result} {t : State} → x ≡ y → Sent (replied a by x) n out out' t → Sent (replied a by y) n out out' t
-  sent-as {t = t} e h = subst (λ (x : Result). Sent (replied a by x) n out out' t) e h
-
-  pub sends-as : {x y : Result} {o : Option ℕ} → x ≡ y → o ≡ guard (a .sequenced) (a .sequence)
-      → Starts n (signedReply (a .identity) by (commandTree (a .connection) o (a .kind) (x .body) (x .code)) (x .value)) out out'
-      → Sent (replied a by y) n out out' (x .state)
-  sends-as {x} e o h = sent-as e (sends a by x o h)
-
   -- ---- PUT and DELETE: a code that is not 1 leaves the store
 
   module _ (code : ℕ) (s : State) (l : List ℕ) where
@@ -36,17 +24,17 @@ module _ (a : Address) (by : List ℕ) {n : ℕ} {out out' : List ℕ} where
         → Sent (replied a by (choose (eqb code 1) (changed s l) (fails s code))) n out out' (withStore s l)
     not-done e k h =
         let z = ne-eqb code 1 e in
-        sent-as (sym (ap (λ (t : Bool). choose t (changed s l) (fails s code)) z))
+        sent-as a by (sym (ap (λ (t : Bool). choose t (changed s l) (fails s code)) z))
         (subst (λ (m : List ℕ). Sent (replied a by (fails s code)) n out out' (withStore s m)) (sym (k z)) h)
 
     pub is-done : code ≡ 1 → Sent (replied a by (changed s l)) n out out' (withStore s l)
         → Sent (replied a by (choose (eqb code 1) (changed s l) (fails s code))) n out out' (withStore s l)
-    is-done e h = sent-as (sym (ap (λ (t : Bool). choose t (changed s l) (fails s code)) (eq-eqb code 1 e))) h
+    is-done e h = sent-as a by (sym (ap (λ (t : Bool). choose t (changed s l) (fails s code)) (eq-eqb code 1 e))) h
 
   pub has-changed : {f : State → Result} {code : ℕ} {l l' : List ℕ} → Changed f code l l'
       → ((s : State) (m : List ℕ) → (eqb code 1 ≡ false → m ≡ s .store) → Sent (replied a by (choose (eqb code 1) (changed s m) (fails s code))) n out out' (withStore s m))
       → (t : State) → t .store ≡ l → Sent (replied a by (f t)) n out out' (withStore t l')
-  has-changed {l' = l'} c h t q = sent-as (sym (c .whole t q)) (h t l' (λ z. c .kept z ∙ sym q))
+  has-changed {l' = l'} c h t q = sent-as a by (sym (c .whole t q)) (h t l' (λ z. c .kept z ∙ sym q))
 
 -- ---- SECURITY
 

@@ -11,7 +11,7 @@ use Rattle.lookups.specs.declared.parts.Part.{Part}
 use Rattle.requests.specs.declared.Body.{Body}
 use Rattle.requests.specs.Views.{BodyLies, bodyView}
 use Rattle.permission_rules.specs.Given.{Keys}
-use Rattle.security.proofs.Scopes.{slice-at}
+use Rattle.lookups.specs.Slices.{slice-at}
 
 abbrev cut : List ℕ → Part → List ℕ
 cut s p = take (p .start + p .len - p .start) (drop (p .start) s)

@@ -21,7 +21,7 @@ use Rattle.access.specs.declared.Found.{Found}
 use Rattle.access.specs.declared.Found.the-variants.{At, Nobody}
 use Rattle.encoding.specs.Basics.{never}
 use Rattle.writers.specs.Pushed.{Starts}
-use Rattle.security.proofs.Scopes.{slice-at}
+use Rattle.lookups.specs.Slices.{slice-at}
 use Rattle.lookups.specs.Views.{bytesAt as bytesIn}
 use Rattle.messages.specs.declared.Sealed.{Sealed}
 use Rattle.messages.specs.Messages.{sealedView}

@@ -1,7 +1,6 @@
 -- The bytes of one scope.
 use Prim.Native.Nat.{ℕ, _+_, _-_, _≤_}
 use native.Mathlib.Omega.{arith}
-use native.Mathlib.Nat.{add-sub-cancel-left}
 use mathlib.Core.Path.{_≡_, sym, ap, subst}
 use mathlib.Core.List.{List}
 use mathlib.Core.Bool.{Bool, false}
@@ -9,16 +8,12 @@ use lib.ListN.{length, take, drop}
 use Rattle.access.specs.Table as access
 use Rattle.lookups.specs.Views.{Inside, bytesAt}
 use Rattle.lookups.specs.declared.parts.Part.{Part}
+use Rattle.lookups.specs.Slices.{slice-at}
 use Rattle.lookups.proofs.Slotted.{length-at}
 use Rattle.scopes.specs.Scope.{scopeView}
 use Rattle.scopes.specs.Laws.{never}
 use Rattle.scopes.specs.declared.ReadScope.{ReadScope}
 use Rattle.security.specs.Security.{Makes}
-
--- the bytes that are sliced out
-pub slice-at : (s : List ℕ) (v : Part) → take (v .start + v .len - v .start) (drop (v .start) s) ≡ bytesAt s v
-unfolding bytesAt
-slice-at s v = ap (λ (n : ℕ). take n (drop (v .start) s)) (add-sub-cancel-left (v .start) (v .len))
 
 pub slice-short : (s : List ℕ) (v : Part) → Inside s v → v .len ≤ 64 → length (take (v .start + v .len - v .start) (drop (v .start) s)) ≤ 64
 slice-short s v i h = subst (λ (l : List ℕ). length l ≤ 64) (sym (slice-at s v)) (omega (arith, length-at s v i))

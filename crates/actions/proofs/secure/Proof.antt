@@ -2,7 +2,8 @@ use mathlib.Core.Path.{_≡_}
 use denote.Ref.{now}
 use Rattle.protocol.specs.State.{State, withDevice}
 use Rattle.scopes.specs.Stands.{aclsIn}
-use Rattle.actions.proofs.Results.{sent-as, secured}
+use Rattle.showing.specs.Results.{sent-as}
+use Rattle.actions.proofs.Results.{secured}
 use borrow.Author.Needs.{needs}
 use Rattle.actions.proofs.secure.Statement.{statement}
 use Rattle.actions.proofs.secure.Tie as tie

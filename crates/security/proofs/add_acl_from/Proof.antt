@@ -6,7 +6,8 @@ use Rattle.tree.specs.declared.Kind.the-variants as kind
 use Rattle.lookups.specs.Views.{Level, bytesAt}
 use Rattle.lookups.proofs.Slotted.{level-sized, part-ready}
 use Rattle.scopes.specs.Laws.{level-at}
-use Rattle.security.proofs.Scopes.{slice-at, slice-short}
+use Rattle.lookups.specs.Slices.{slice-at}
+use Rattle.security.proofs.Scopes.{slice-short}
 use Rattle.security.proofs.Acls.{AclFacts, acl-facts, acl-nameless, acl-keyless, acl-long, acl-made}
 use borrow.Author.Needs.{needs}
 use Rattle.security.proofs.add_acl_from.Statement.{statement}

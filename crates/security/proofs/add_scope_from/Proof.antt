@@ -3,7 +3,8 @@ use denote.Ref.{now}
 use borrow.Author.Tests.{not-true, not-false}
 use Rattle.access.specs.Table as access
 use Rattle.access_write.specs.Write.{putScope}
-use Rattle.security.proofs.Scopes.{slice-at, slice-short, makes-no, sliced}
+use Rattle.lookups.specs.Slices.{slice-at}
+use Rattle.security.proofs.Scopes.{slice-short, makes-no, sliced}
 use borrow.Author.Needs.{needs}
 use Rattle.security.proofs.add_scope_from.Statement.{statement}
 use Rattle.security.proofs.add_scope_from.Tie as tie

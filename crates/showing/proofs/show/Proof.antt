@@ -4,10 +4,10 @@ use Rattle.protocol.specs.State.{State}
 use Rattle.protocol.specs.Judge.{shown}
 use Rattle.queries.specs.declared.Shown.{Shown}
 use Rattle.queries.specs.Given.{PartsInside, entryShown}
-use Rattle.actions.proofs.Results.{sent-as}
+use Rattle.showing.specs.Results.{sent-as}
 use borrow.Author.Needs.{needs}
-use Rattle.actions.proofs.show.Statement.{statement}
-use Rattle.actions.proofs.show.Tie as tie
+use Rattle.showing.proofs.show.Statement.{statement}
+use Rattle.showing.proofs.show.Tie as tie
 
 abbrev S : tie.After-shared-slice-known2 → tie.Start
 S m = m .before .before .before

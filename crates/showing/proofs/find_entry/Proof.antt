@@ -1,11 +1,11 @@
 use mathlib.Core.Path.{sym, subst}
 use denote.Ref.{now}
 use Rattle.queries.specs.Given.{Showing}
-use Rattle.actions.specs.declared.Which.{Which}
-use Rattle.actions.specs.Sought.{sought}
+use Rattle.showing.specs.declared.Which.{Which}
+use Rattle.showing.specs.Sought.{sought}
 use borrow.Author.Needs.{needs}
-use Rattle.actions.proofs.find_entry.Statement.{statement}
-use Rattle.actions.proofs.find_entry.Tie as tie
+use Rattle.showing.proofs.find_entry.Statement.{statement}
+use Rattle.showing.proofs.find_entry.Tie as tie
 
 abbrev S : tie.After-shared-slice-known2 → tie.Start
 S m = m .before .before

@@ -2,11 +2,11 @@ use mathlib.Core.Path.{_≡_, ap, _∙_}
 use denote.Ref.{now}
 use Rattle.protocol.specs.State.{State}
 use Rattle.protocol.specs.Judge.{entryOf, versionShown}
-use Rattle.actions.proofs.Slices.{cut-part}
-use Rattle.actions.proofs.Results.{sent-as}
+use Rattle.showing.specs.Slices.{cut-part}
+use Rattle.showing.specs.Results.{sent-as}
 use borrow.Author.Needs.{needs}
-use Rattle.actions.proofs.get_version.Statement.{statement}
-use Rattle.actions.proofs.get_version.Tie as tie
+use Rattle.showing.proofs.get_version.Statement.{statement}
+use Rattle.showing.proofs.get_version.Tie as tie
 
 add-end : tie.Need-add-end
 add-end c = search needs

@@ -6,8 +6,8 @@ use Rattle.block.specs.Entry.{Entry}
 use Rattle.store.specs.Entries.{nextIn, previousIn}
 use Rattle.protocol.specs.State.{State, entries}
 use Rattle.protocol.specs.Judge.{entryOf, entryThere}
-use Rattle.actions.specs.declared.Which.{Which}
-use Rattle.actions.specs.declared.Which.the-variants.{Own, Next, Previous}
+use Rattle.showing.specs.declared.Which.{Which}
+use Rattle.showing.specs.declared.Which.the-variants.{Own, Next, Previous}
 
 abbrev pub sought : Which → State → List ℕ → Option Entry
 sought Own s k = entryOf s k

@@ -2,12 +2,12 @@ use mathlib.Core.Path.{_≡_, ap, ap₂, _∙_}
 use denote.Ref.{now}
 use Rattle.protocol.specs.State.{State}
 use Rattle.protocol.specs.Judge.{shown}
-use Rattle.actions.specs.Sought.{sought}
-use Rattle.actions.proofs.Slices.{cut-part}
-use Rattle.actions.proofs.Results.{sent-as}
+use Rattle.showing.specs.Sought.{sought}
+use Rattle.showing.specs.Slices.{cut-part}
+use Rattle.showing.specs.Results.{sent-as}
 use borrow.Author.Needs.{needs}
-use Rattle.actions.proofs.get.Statement.{statement}
-use Rattle.actions.proofs.get.Tie as tie
+use Rattle.showing.proofs.get.Statement.{statement}
+use Rattle.showing.proofs.get.Tie as tie
 
 add-end : tie.Need-add-end
 add-end c = search needs

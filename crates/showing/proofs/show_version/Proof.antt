@@ -5,11 +5,11 @@ use Rattle.protocol.specs.State.{State}
 use Rattle.protocol.specs.Judge.{versionShown}
 use Rattle.queries.specs.declared.Shown.{Shown}
 use Rattle.queries.specs.Given.{Inside, PartsInside, entryShown}
-use Rattle.actions.proofs.Slices.{cut-short, version-cut}
-use Rattle.actions.proofs.Results.{sent-as}
+use Rattle.showing.specs.Slices.{cut-short, version-cut}
+use Rattle.showing.specs.Results.{sent-as}
 use borrow.Author.Needs.{needs}
-use Rattle.actions.proofs.show_version.Statement.{statement}
-use Rattle.actions.proofs.show_version.Tie as tie
+use Rattle.showing.proofs.show_version.Statement.{statement}
+use Rattle.showing.proofs.show_version.Tie as tie
 
 abbrev S : tie.After-shared-slice-known2 → tie.Start
 S m = m .before .before .before

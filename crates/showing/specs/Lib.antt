@@ -1,0 +1,3 @@
+pub mod Sought
+pub mod Slices
+pub mod Results

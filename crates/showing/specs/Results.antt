@@ -1,0 +1,22 @@
+-- Replies that were sent, by the results that they say.
+use mathlib.Core.Path.{_≡_, subst}
+use mathlib.Core.List.{List}
+use mathlib.Core.Option.{Option}
+use Prim.Native.Nat.{ℕ}
+use Rattle.tree.specs.Tree.{guard}
+use Rattle.writers.specs.Pushed.{Starts}
+use Rattle.protocol.specs.State.{State}
+use Rattle.protocol.specs.Judge.{Result}
+use Rattle.protocol.specs.Reply.{commandTree, signedReply}
+use Rattle.sending.specs.declared.Address.{Address}
+use Rattle.sending.specs.Sent.{Sent, replied}
+use Rattle.sending.specs.SentLaws.{sends}
+
+module _ (a : Address) (by : List ℕ) {n : ℕ} {out out' : List ℕ} where
+  pub sent-as : {x y : Result} {t : State} → x ≡ y → Sent (replied a by x) n out out' t → Sent (replied a by y) n out out' t
+  sent-as {t = t} e h = subst (λ (x : Result). Sent (replied a by x) n out out' t) e h
+
+  pub sends-as : {x y : Result} {o : Option ℕ} → x ≡ y → o ≡ guard (a .sequenced) (a .sequence)
+      → Starts n (signedReply (a .identity) by (commandTree (a .connection) o (a .kind) (x .body) (x .code)) (x .value)) out out'
+      → Sent (replied a by y) n out out' (x .state)
+  sends-as {x} e o h = sent-as e (sends a by x o h)
