@@ -1,9 +1,6 @@
 // The box's calls for a host in C, over lent bytes; include/ridgeladle.h says how a host uses them.
 use access::Record;
 use connection_bytes::Bytes;
-use device::Formatted;
-use device::Response;
-use local::Local;
 ghost use mathlib.Core.Path.{_≡_};
 ghost use mathlib.Core.Bool.{not};
 ghost use lib.Dec.{eqb};
@@ -13,19 +10,15 @@ ghost use Rattle.signature.specs.Hmac.{hmacAnswer};
 ghost use Rattle.signature_export.specs.Written.{Written};
 ghost use Rattle.protocol.specs.Format.{Told};
 ghost use Rattle.connection_bytes.specs.Layout.{connectedBytes};
-ghost use Rattle.abi.specs.Calls.{left, answerCall, Find};
-ghost use Rattle.abi.specs.Notes.{noted, notes};
+ghost use Rattle.host_calls.specs.Find.{Find};
+ghost use Rattle.abi.specs.Calls.{left, answerCall};
 
 // 0 made; or refusal 2 or 6, and nothing is written.
 #[no_mangle]
 pub extern "C" fn ridgeladle_format(store: &mut [u8], device: &mut Record, key: &[u8]) -> u32
     ensures { λ r. ⌜ Told r (now (store .entry)) (now (device .entry)) (now (key .entry)) (now (store .exit)) (now (device .exit)) ⌝ }
 {
-    match device::format(store, device, key) {
-        Formatted::Made => 0,
-        Formatted::StoreBad => 2,
-        Formatted::KeyBad => 6,
-    }
+    host_calls::format(store, device, key)
 }
 
 // A new connection; protected is yes where not zero.
@@ -33,29 +26,7 @@ pub extern "C" fn ridgeladle_format(store: &mut [u8], device: &mut Record, key: 
 pub extern "C" fn ridgeladle_connect(connection: &mut Bytes, number: i64, protected: u8)
     ensures { λ _. ⌜ now (connection .exit) ≡ connectedBytes (wordOf number) (not (eqb protected 0)) ⌝ }
 {
-    connection_bytes::connect(connection, integers::word(number), protected != 0);
-}
-
-// The number of a response; where it is an answer, what changed of the connection, and the counts.
-fn note(connection: &mut Bytes, counts: &mut [u64; 2], r: Response) -> u32
-    ensures { λ n. ⌜ noted n (now (connection .exit)) (now (counts .exit)) ≡ notes (now (connection .entry)) (now (counts .entry)) r ⌝ }
-{
-    match r {
-        Response::OutShort => 1,
-        Response::StoreBad => 2,
-        Response::DeviceBad => 3,
-        Response::Closed => 4,
-        Response::More => 5,
-        Response::Answered {
-            written,
-            taken,
-            connection: after,
-        } => {
-            *counts = [taken as u64, written as u64];
-            connection_bytes::update(connection, after);
-            0
-        }
-    }
+    host_calls::connect(connection, number, protected);
 }
 
 // 0 answered, and the counts are those of the input taken and of the reply; or refusal 1 to 5, and nothing is written.
@@ -72,7 +43,7 @@ pub extern "C" fn ridgeladle_answer(
 {
     let c = connection_bytes::connection_at(connection);
     let r = device::answer(store, device, c, input, out);
-    note(connection, counts, r)
+    host_calls::note(connection, counts, r)
 }
 
 // 0 found, and part is the value's offset in the store and its length; or 1 not found, or refusal 2, and nothing is written.
@@ -80,14 +51,7 @@ pub extern "C" fn ridgeladle_answer(
 pub extern "C" fn ridgeladle_find(store: &[u8], key: &[u8], part: &mut [u64; 2]) -> u32
     ensures { λ r. ⌜ Find (now (store .entry)) (now (key .entry)) (now (part .entry)) r (now (part .exit)) ⌝ }
 {
-    match device::local_find(store, key) {
-        Local::Value { start, len } => {
-            *part = [start as u64, len as u64];
-            0
-        }
-        Local::NotFound => 1,
-        Local::StoreBad => 2,
-    }
+    host_calls::find(store, key, part)
 }
 
 // 0 and the digest; or 1 for a text of 2^60 bytes or more, and nothing is written.

@@ -1,6 +1,5 @@
 use mathlib.Core.Path.{ap, _∙_}
 use mathlib.Core.Bool.{not}
-use Prim.Native.Nat.{ℕ}
 use lib.Dec.{eqb}
 use mir.Syntax.{w64}
 use mir.Facts.{toZ-ofZ}
@@ -10,17 +9,13 @@ use borrow.Author.Needs.{needs}
 use Rattle.abi.proofs.ridgeladle_connect.Statement.{statement}
 use Rattle.abi.proofs.ridgeladle_connect.Tie as tie
 
-word-requires : tie.Need-word-requires
-word-requires c κs = search needs
-
 connect-requires : tie.Need-connect-requires
 connect-requires c κs = search needs
 
 returns : tie.Need-returns
 returns c =
-    let z = c .before .before .before in
-    c .connect .ensures
-    ∙ ap (λ (w : ℕ). connectedBytes w (not (eqb (z .args .protected) 0))) (c .before .word .ensures ∙ ap wordOf (toZ-ofZ {w = w64} (z .fits .number)))
+    let z = c .before .before in
+    c .connect .ensures ∙ ap (λ n. connectedBytes (wordOf n) (not (eqb (z .args .protected) 0))) (toZ-ofZ {w = w64} (z .fits .number))
 
 pub ridgeladle-connect-spec : {M : Type 1} → statement M
-ridgeladle-connect-spec = tie.close (tie.spec word-requires connect-requires returns)
+ridgeladle-connect-spec = tie.close (tie.spec connect-requires returns)

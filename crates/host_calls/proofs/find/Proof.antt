@@ -2,10 +2,10 @@ use denote.Ref.{now}
 use mathlib.Core.Path.{refl}
 use Rattle.local.specs.Local.{notFound, storeBad}
 use Rattle.local.specs.declared.Local.the-variants.{NotFound, StoreBad}
-use Rattle.abi.proofs.Steps.{find-value, find-none}
+use Rattle.host_calls.proofs.Steps.{find-value, find-none}
 use borrow.Author.Needs.{needs}
-use Rattle.abi.proofs.ridgeladle_find.Statement.{statement}
-use Rattle.abi.proofs.ridgeladle_find.Tie as tie
+use Rattle.host_calls.proofs.find.Statement.{statement}
+use Rattle.host_calls.proofs.find.Tie as tie
 
 local-find-requires : tie.Need-local-find-requires
 local-find-requires c κs = search needs
@@ -35,8 +35,8 @@ returns-3 c =
     let z = c .before .before .before .before .before .args in
     find-none (now (z .store)) (now (z .key)) (now (z .part)) (c .before .before .local-find .ensures) StoreBad storeBad (c .enum-told2 .given .1) refl refl
 
-pub ridgeladle-find-spec : {M : Type 1} → statement M
-ridgeladle-find-spec =
+pub find-spec : {M : Type 1} → statement M
+find-spec =
     tie.close
     (tie.spec
     local-find-requires

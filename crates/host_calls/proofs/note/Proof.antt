@@ -2,10 +2,10 @@ use denote.Ref.{now}
 use mathlib.Core.Path.{sym, ap, _∙_}
 use mathlib.Core.List.{List, [], _∷_}
 use Prim.Native.Nat.{ℕ}
-use Rattle.abi.specs.Notes.{noted, notes}
+use Rattle.host_calls.specs.Notes.{noted, notes}
 use borrow.Author.Needs.{needs}
-use Rattle.abi.proofs.note.Statement.{statement}
-use Rattle.abi.proofs.note.Tie as tie
+use Rattle.host_calls.proofs.note.Statement.{statement}
+use Rattle.host_calls.proofs.note.Tie as tie
 
 enum-told : tie.Need-enum-told
 enum-told c = search needs

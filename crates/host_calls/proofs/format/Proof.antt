@@ -1,8 +1,8 @@
 use Rattle.formatting.specs.declared.Formatted.the-variants.{Made, StoreBad, KeyBad}
-use Rattle.abi.proofs.Steps.{formatted}
+use Rattle.host_calls.proofs.Steps.{formatted}
 use borrow.Author.Needs.{needs}
-use Rattle.abi.proofs.ridgeladle_format.Statement.{statement}
-use Rattle.abi.proofs.ridgeladle_format.Tie as tie
+use Rattle.host_calls.proofs.format.Statement.{statement}
+use Rattle.host_calls.proofs.format.Tie as tie
 
 format-requires : tie.Need-format-requires
 format-requires c κs = search needs
@@ -34,8 +34,8 @@ same-length-3 c = search needs
 returns-3 : tie.Need-returns-3
 returns-3 c = formatted KeyBad (c .enum-told3 .given .1) (c .before .before .before .before .format .ensures)
 
-pub ridgeladle-format-spec : {M : Type 1} → statement M
-ridgeladle-format-spec =
+pub format-spec : {M : Type 1} → statement M
+format-spec =
     tie.close
     (tie.spec
     format-requires

@@ -1,0 +1,68 @@
+// What the calls for C have to say but the answering one, and what becomes of its response: numbers, counts, and bytes of the connection.
+use access::Record;
+use connection_bytes::Bytes;
+use formatting::Formatted;
+use local::Local;
+use responses::Response;
+ghost use mathlib.Core.Path.{_≡_};
+ghost use mathlib.Core.Bool.{not};
+ghost use lib.Dec.{eqb};
+ghost use Rattle.integers.specs.Signed.{wordOf};
+ghost use Rattle.protocol.specs.Format.{Told};
+ghost use Rattle.connection_bytes.specs.Layout.{connectedBytes};
+ghost use Rattle.host_calls.specs.Find.{Find};
+ghost use Rattle.host_calls.specs.Notes.{noted, notes};
+
+// 0 made; or refusal 2 or 6, and nothing is written.
+pub fn format(store: &mut [u8], device: &mut Record, key: &[u8]) -> u32
+    ensures { λ r. ⌜ Told r (now (store .entry)) (now (device .entry)) (now (key .entry)) (now (store .exit)) (now (device .exit)) ⌝ }
+{
+    match formatting::format(store, device, key) {
+        Formatted::Made => 0,
+        Formatted::StoreBad => 2,
+        Formatted::KeyBad => 6,
+    }
+}
+
+// A new connection; protected is yes where not zero.
+pub fn connect(connection: &mut Bytes, number: i64, protected: u8)
+    ensures { λ _. ⌜ now (connection .exit) ≡ connectedBytes (wordOf number) (not (eqb protected 0)) ⌝ }
+{
+    connection_bytes::connect(connection, integers::word(number), protected != 0);
+}
+
+// The number of a response; where it is an answer, what changed of the connection, and the counts.
+pub fn note(connection: &mut Bytes, counts: &mut [u64; 2], r: Response) -> u32
+    ensures { λ n. ⌜ noted n (now (connection .exit)) (now (counts .exit)) ≡ notes (now (connection .entry)) (now (counts .entry)) r ⌝ }
+{
+    match r {
+        Response::OutShort => 1,
+        Response::StoreBad => 2,
+        Response::DeviceBad => 3,
+        Response::Closed => 4,
+        Response::More => 5,
+        Response::Answered {
+            written,
+            taken,
+            connection: after,
+        } => {
+            *counts = [taken as u64, written as u64];
+            connection_bytes::update(connection, after);
+            0
+        }
+    }
+}
+
+// 0 found, and part is the value's offset in the store and its length; or 1 not found, or refusal 2, and nothing is written.
+pub fn find(store: &[u8], key: &[u8], part: &mut [u64; 2]) -> u32
+    ensures { λ r. ⌜ Find (now (store .entry)) (now (key .entry)) (now (part .entry)) r (now (part .exit)) ⌝ }
+{
+    match local::local_find(store, key) {
+        Local::Value { start, len } => {
+            *part = [start as u64, len as u64];
+            0
+        }
+        Local::NotFound => 1,
+        Local::StoreBad => 2,
+    }
+}
