@@ -1,0 +1,4 @@
+pub mod Pattern
+pub mod Bridge
+pub mod Portion
+mod Examples
