@@ -1,0 +1,114 @@
+// The readings that a host lends, 134 bytes: up to four temperatures and two utilizations, each with its name.
+ghost use mathlib.Core.Path.{_≡_};
+ghost use mathlib.Core.Bool.{true};
+ghost use Prim.Native.Nat.{_+_, _≤_, _<_};
+ghost use lib.ListN.{length, getD};
+ghost use Rattle.binary32.specs.Celsius.{sentBits};
+ghost use Rattle.readings.specs.Lent.{bitsAt, placeAt, placesFrom, allNamed, readingsGood, sampleOf};
+ghost use Rattle.readings.specs.LentLaws.{Placed, fits};
+use binary32::Sent;
+
+fn wide(x: u8) -> u32
+    ensures { λ r. ⌜ (r ≡ x) × (r < 256) ⌝ }
+{
+    x as u32
+}
+
+fn count(x: u8) -> usize
+    ensures { λ r. ⌜ (r ≡ x) × (r < 256) ⌝ }
+{
+    x as usize
+}
+
+fn name_fits(n: u8) -> bool
+    ensures { λ r. ⌜ r ≡ fits n ⌝ }
+{
+    if n < 1 {
+        return false;
+    }
+    n <= 16
+}
+
+// Has each of `n` places from `first` on a name of 1 to 16 bytes?
+fn named(s: &[u8], first: usize, n: usize) -> bool
+    requires { ⌜ (length (now s) ≡ 134) × (first + n ≤ 6) ⌝ }
+    ensures { λ r. ⌜ r ≡ allNamed (placesFrom (now (s .entry)) first n) ⌝ }
+{
+    let mut i = first;
+    let mut left = n;
+    while 0 < left {
+        if !name_fits(s[3 + i * 22]) {
+            return false;
+        }
+        i += 1;
+        left -= 1;
+    }
+    true
+}
+
+// Are the counts, the names and the length as document 02 has them?
+pub fn good(s: &[u8]) -> bool
+    ensures { λ r. ⌜ r ≡ readingsGood (now (s .entry)) ⌝ }
+{
+    if s.len() != 134 {
+        return false;
+    }
+    let t = count(s[0]);
+    if 4 < t {
+        return false;
+    }
+    let u = count(s[1]);
+    if 2 < u {
+        return false;
+    }
+    if !named(s, 0, t) {
+        return false;
+    }
+    named(s, 4, u)
+}
+
+// How many temperatures there are: the places from 0 on.
+pub fn temperatures(s: &[u8]) -> usize
+    requires { ⌜ readingsGood (now s) ≡ true ⌝ }
+    ensures { λ r. ⌜ (r ≡ getD (now (s .entry)) 0 0) × (r ≤ 4) ⌝ }
+{
+    count(s[0])
+}
+
+// How many utilizations there are: the places from 4 on.
+pub fn utilizations(s: &[u8]) -> usize
+    requires { ⌜ readingsGood (now s) ≡ true ⌝ }
+    ensures { λ r. ⌜ (r ≡ getD (now (s .entry)) 1 0) × (r ≤ 2) ⌝ }
+{
+    count(s[1])
+}
+
+pub fn name_of(s: &[u8], place: usize) -> &[u8]
+    requires { ⌜ Placed (now s) place ⌝ }
+    ensures { λ r. ⌜ (now r ≡ placeAt (now (s .entry)) place .name) × (1 ≤ length (now r)) × (length (now r) ≤ 16) ⌝ }
+{
+    let start = 4 + place * 22;
+    let end = start + count(s[3 + place * 22]);
+    &s[start..end]
+}
+
+// Four bytes, the highest first.
+fn bits_at(s: &[u8], a: usize) -> u32
+    requires { ⌜ a + 4 ≤ length (now s) ⌝ }
+    ensures { λ r. ⌜ r ≡ bitsAt (now (s .entry)) a ⌝ }
+{
+    wide(s[a]) * 16777216 + wide(s[a + 1]) * 65536 + wide(s[a + 2]) * 256 + wide(s[a + 3])
+}
+
+// What is sent of the value at a place: as a temperature, in Celsius; as a utilization, as it is.
+pub fn value_at(s: &[u8], place: usize, temperature: bool) -> Sent
+    requires { ⌜ Placed (now s) place ⌝ }
+    ensures { λ r. ⌜ sentBits r ≡ sampleOf temperature (placeAt (now (s .entry)) place) .value ⌝ }
+{
+    let a = 2 + place * 22;
+    let bits = bits_at(s, a + 18);
+    if temperature {
+        return binary32::lent_celsius(s[a] != 0, bits);
+    }
+    binary32::finite_lent(bits)
+}
