@@ -1,10 +1,20 @@
-/* The box of document 01 in plain C, written from the documents: what the proved box is compared with and measured against. */
+/* The box of document 01 in plain C, written from the documents: what the proved box is compared with and measured against.
+
+   Temperatures are turned with the compiler's float: each step must be rounded to f32 by itself. So the float must be evaluated in its own width
+   (x86-64 does), no two steps may be made one (the scripts pass -ffp-contract=off), and no flag may change arithmetic. */
 #include "box.h"
+#include <float.h>
 #include <string.h>
+
+#if FLT_EVAL_METHOD != 0 || defined __FAST_MATH__
+#error "each step of a float must be rounded to f32"
+#endif
 
 enum { BLOCK = 512, MOST_STORE = 128 * BLOCK, ACL_PLACE = 368, SCOPE_PLACE = 72, MOST_MESSAGE = 8192, MOST_VALUE = 1024, MOST_KEYS = 32 };
 
-enum { OUT_SHORT = 1, STORE_BAD, DEVICE_BAD, CLOSED, MORE, KEY_BAD };
+enum { READING_PLACE = 22, MOST_NAME = 16, MOST_TEMPERATURES = 4, MOST_UTILIZATIONS = 2 };
+
+enum { OUT_SHORT = 1, STORE_BAD, DEVICE_BAD, CLOSED, MORE, KEY_BAD, READINGS_BAD };
 
 enum {
     SUCCESS = 1,
@@ -29,18 +39,24 @@ enum {
     GETKEYRANGE = 12,
     GETVERSION = 16,
     SETUP = 22,
+    GETLOG = 24,
     SECURITY = 26,
     NOOP = 30,
     FLUSHALLDATA = 32
 };
 
-enum { READ_OK = 0, WRITE_OK = 1, DELETE_OK = 2, RANGE_OK = 3, SETUP_OK = 4, SECURITY_OK = 8 };
+enum { READ_OK = 0, WRITE_OK = 1, DELETE_OK = 2, RANGE_OK = 3, SETUP_OK = 4, GETLOG_OK = 7, SECURITY_OK = 8 };
+
+/* Types of a log. */
+enum { UTILIZATIONS = 0, TEMPERATURES = 1, CAPACITIES = 2, LIMITS = 6, DEVICE = 7 };
 
 /* Sets of small numbers, a bit for each. */
 #define PERMISSIONS 0x3bfu  /* 0-5, 7, 8, 9 */
 #define PRIORITIES 0x2aau   /* 1, 3, 5, 7, 9 */
 #define ALGORITHMS 0x7eu    /* 1 to 6 */
 #define SYNCHRONIZATIONS 0xeu /* 1 to 3 */
+#define LOG_TYPES 0xffu     /* 0 to 7 */
+#define UNBUILT_TYPES 0x38u /* 3, 4, 5 */
 
 static int in_set(int64_t x, uint32_t set) { return x >= 0 && x < 32 && set >> x & 1; }
 
@@ -161,7 +177,7 @@ static int record_good(uint8_t *record) {
     return 1;
 }
 
-/* One scope must hold the permission, allow the connection and fit the key; no key is asked of SETUP and SECURITY. */
+/* One scope must hold the permission, allow the connection and fit the key; no key is asked of SETUP, GETLOG and SECURITY. */
 static int permits(const uint8_t *acl, int permission, int is_protected, const bytes *key) {
     for (size_t i = 0; i < acl[9]; i++) {
         const uint8_t *scope = scope_at(acl, i);
@@ -171,6 +187,40 @@ static int permits(const uint8_t *acl, int permission, int is_protected, const b
     }
     return 0;
 }
+
+/* ---- Lent readings: the number of temperatures, that of utilizations, then four places of temperatures and two of utilizations */
+
+static const uint8_t *reading_at(const uint8_t *readings, size_t place) { return readings + 2 + place * READING_PLACE; }
+
+static int names_good(const uint8_t *readings, size_t from, size_t count) {
+    for (size_t i = from; i < from + count; i++) {
+        uint8_t n = reading_at(readings, i)[1];
+        if (n < 1 || n > MOST_NAME) return 0;
+    }
+    return 1;
+}
+
+static int readings_good(const uint8_t *readings, size_t n) {
+    if (n != PLAIN_READINGS || readings[0] > MOST_TEMPERATURES || readings[1] > MOST_UTILIZATIONS) return 0;
+    return names_good(readings, 0, readings[0]) && names_good(readings, MOST_TEMPERATURES, readings[1]);
+}
+
+static uint32_t bits_of(float x) {
+    uint32_t bits;
+    memcpy(&bits, &x, sizeof bits);
+    return bits;
+}
+
+static uint32_t celsius(uint32_t fahrenheit) {
+    float x;
+    memcpy(&x, &fahrenheit, sizeof x);
+    float less = x - 32.0f;
+    float five_times = less * 5.0f;
+    float ninth = five_times / 9.0f;
+    return bits_of(ninth);
+}
+
+static int is_finite(uint32_t bits) { return (bits & 0x7f800000u) != 0x7f800000u; }
 
 /* ---- Fields */
 
@@ -354,6 +404,23 @@ static int read_setup(bytes m, setup *s) {
     return 1;
 }
 
+typedef struct {
+    uint32_t types; /* a bit for each that is asked for */
+} log_request;
+
+static int read_log(bytes m, log_request *g) {
+    field f = {0};
+    while (m.n) {
+        uint32_t repeated = 0;
+        int64_t type;
+        if (!next(&m, &f)) return 0;
+        if (f.number != 1) continue;
+        if (!read_enum(&f, &repeated, &type, LOG_TYPES)) return 0;
+        g->types |= 1u << type;
+    }
+    return 1;
+}
+
 /* The table that Security asks for, as it will stand in the record: written as long as no ACL rule is broken. */
 typedef struct {
     int good, sha1;
@@ -443,6 +510,7 @@ typedef struct {
     key_value key_value;
     range range;
     setup setup;
+    log_request log;
     table *table;
 } command;
 
@@ -455,9 +523,9 @@ static int read_body(bytes m, command *c) {
         case 1: good = once(&f, 2, &c->body) && read_key_value(f.data, &c->key_value); break;
         case 2: good = once(&f, 2, &c->body) && read_range(f.data, &c->range); break;
         case 3: good = once(&f, 2, &c->body) && read_setup(f.data, &c->setup); break;
+        case 6: good = once(&f, 2, &c->body) && read_log(f.data, &c->log); break;
         case 7: good = once(&f, 2, &c->body) && read_security(f.data, c->table); break;
         case 4:
-        case 6:
         case 8:
         case 9:
         case 10: good = 0;
@@ -541,9 +609,16 @@ static uint8_t *write_bytes(uint8_t *p, int number, const uint8_t *data, size_t 
     return p + n;
 }
 
+/* An f32, by its bits. */
+static uint8_t *write_float(uint8_t *p, int number, uint32_t bits) {
+    *p++ = (uint8_t)(number << 3 | 5);
+    for (int i = 0; i < 4; i++) *p++ = (uint8_t)(bits >> 8 * i);
+    return p;
+}
+
 static uint8_t *write_unless_empty(uint8_t *p, int number, const uint8_t *data, size_t n) { return n ? write_bytes(p, number, data, n) : p; }
 
-/* What an operation says: its code and, on success, the keyValue (1) or range (2) of its body if it has one, and the value part. */
+/* What an operation says: its code and, on success, the keyValue (1), range (2) or getLog (6) of its body if it has one, and the value part. */
 typedef struct {
     uint32_t code;
     int number;
@@ -604,6 +679,7 @@ typedef struct {
     uint8_t *store;
     size_t len, used;
     uint8_t *record, *connection;
+    const uint8_t *readings;
 } box;
 
 static void write_block(uint8_t *b, const key_value *v, bytes value) {
@@ -688,6 +764,52 @@ static void get_key_range(const box *b, const range *g, result *r) {
     r->n = (size_t)(p - r->part);
 }
 
+/* A utilization or a temperature: a value that is not finite is left out. */
+static uint8_t *write_reading(uint8_t *p, int number, const uint8_t *reading, uint32_t bits) {
+    uint8_t part[MOST_NAME + 8];
+    uint8_t *end = write_bytes(part, 1, reading + 2, reading[1]);
+    if (is_finite(bits)) end = write_float(end, 2, bits);
+    return write_bytes(p, number, part, (size_t)(end - part));
+}
+
+static uint8_t *write_capacity(uint8_t *p, const box *b) {
+    uint8_t part[16];
+    float used = (float)b->used, blocks = (float)(b->len / BLOCK), portion = used / blocks;
+    uint8_t *end = write_float(write_number(part, 4, (int64_t)b->len), 5, bits_of(portion));
+    return write_bytes(p, 4, part, (size_t)(end - part));
+}
+
+static uint8_t *write_limits(uint8_t *p) {
+    static const struct {
+        int number;
+        int64_t most;
+    } limits[] = {{1, 64}, {2, 384}, {3, 16}, {4, 32}, {8, MOST_MESSAGE}, {9, MOST_KEYS}, {10, 8}};
+    uint8_t part[32], *end = part;
+    for (size_t i = 0; i < sizeof limits / sizeof *limits; i++) end = write_number(end, limits[i].number, limits[i].most);
+    return write_bytes(p, 8, part, (size_t)(end - part));
+}
+
+static void get_log(const box *b, uint32_t types, result *r) {
+    if (in_set(DEVICE, types)) {
+        r->code = NOT_FOUND;
+        return;
+    }
+    uint8_t *p = r->part;
+    for (size_t i = 0; in_set(UTILIZATIONS, types) && i < b->readings[1]; i++) {
+        const uint8_t *reading = reading_at(b->readings, MOST_TEMPERATURES + i);
+        p = write_reading(p, 2, reading, be32(reading + 18));
+    }
+    for (size_t i = 0; in_set(TEMPERATURES, types) && i < b->readings[0]; i++) {
+        const uint8_t *reading = reading_at(b->readings, i);
+        uint32_t bits = be32(reading + 18);
+        p = write_reading(p, 3, reading, reading[0] ? celsius(bits) : bits);
+    }
+    if (in_set(CAPACITIES, types)) p = write_capacity(p, b);
+    if (in_set(LIMITS, types)) p = write_limits(p);
+    r->number = 6;
+    r->n = (size_t)(p - r->part);
+}
+
 /* ---- The order of judgement */
 
 static int built(int64_t type) {
@@ -700,6 +822,7 @@ static int built(int64_t type) {
     case GETKEYRANGE:
     case GETVERSION:
     case SETUP:
+    case GETLOG:
     case SECURITY:
     case NOOP:
     case FLUSHALLDATA: return 1;
@@ -725,6 +848,7 @@ static uint32_t body_fault(const command *c, size_t value) {
     case FLUSHALLDATA: return 0;
     case GETKEYRANGE: return has(c->body, 2) && range_good(&c->range) ? 0 : INVALID_REQUEST;
     case SETUP: return has(c->body, 3) ? 0 : INVALID_REQUEST;
+    case GETLOG: return c->log.types && !(c->log.types & UNBUILT_TYPES) ? 0 : INVALID_REQUEST;
     case SECURITY:
         if (!has(c->body, 7) || !c->table->good) return INVALID_REQUEST;
         return c->table->sha1 ? 0 : NO_SUCH_HMAC_ALGORITHM;
@@ -741,6 +865,7 @@ static int authorized(const uint8_t *acl, int tls, const command *c) {
     case DELETE: return permits(acl, DELETE_OK, tls, &c->key_value.key);
     case GETKEYRANGE: return permits(acl, RANGE_OK, tls, &c->range.start) && permits(acl, RANGE_OK, tls, &c->range.end);
     case SETUP: return permits(acl, SETUP_OK, tls, NULL);
+    case GETLOG: return permits(acl, GETLOG_OK, tls, NULL);
     case SECURITY: return permits(acl, SECURITY_OK, tls, NULL);
     default: return permits(acl, READ_OK, tls, &c->key_value.key);
     }
@@ -758,6 +883,7 @@ static void perform(const box *b, const command *c, bytes value, result *r) {
         r->number = 0;
         if (has(c->setup.seen, 1)) put_be64(b->record, c->setup.cluster);
         break;
+    case GETLOG: get_log(b, c->log.types, r); break;
     case SECURITY:
         r->number = 0;
         memcpy(b->record + 8, c->table->record + 8, PLAIN_RECORD - 8);
@@ -826,8 +952,8 @@ static size_t respond(const box *b, bytes data, bytes value, uint8_t *out) {
 
 /* ---- The calls */
 
-uint32_t plain_answer(uint8_t *store, size_t store_len, uint8_t *record, uint8_t *connection, const uint8_t *input, size_t input_len,
-                      uint8_t *out, size_t out_len, uint64_t *counts) {
+uint32_t plain_answer(uint8_t *store, size_t store_len, uint8_t *record, uint8_t *connection, const uint8_t *readings, size_t readings_len,
+                      const uint8_t *input, size_t input_len, uint8_t *out, size_t out_len, uint64_t *counts) {
     if (out_len < PLAIN_ROOM) return OUT_SHORT;
     int used = check(store, store_len);
     if (used < 0) return STORE_BAD;
@@ -838,13 +964,15 @@ uint32_t plain_answer(uint8_t *store, size_t store_len, uint8_t *record, uint8_t
     uint8_t head[9] = {0};
     memcpy(head, input, input_len < 9 ? input_len : 9);
     size_t m = be32(head + 1), v = be32(head + 5);
-    if (head[0] != 0x46 || m > MOST_MESSAGE || v > MOST_VALUE) {
+    int closes = head[0] != 0x46 || m > MOST_MESSAGE || v > MOST_VALUE;
+    if (!closes && input_len < 9 + m + v) return MORE;
+    if (!readings_good(readings, readings_len)) return READINGS_BAD;
+    if (closes) {
         counts[0] = input_len;
         counts[1] = close_with(CONNECTION_TERMINATED, connection, out);
         return 0;
     }
-    if (input_len < 9 + m + v) return MORE;
-    box b = {store, store_len, (size_t)used, record, connection};
+    box b = {store, store_len, (size_t)used, record, connection, readings};
     counts[0] = 9 + m + v;
     counts[1] = respond(&b, (bytes){input + 9, m}, (bytes){input + 9 + m, v}, out);
     return 0;

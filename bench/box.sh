@@ -13,6 +13,6 @@ else
     clang -O2 -Wall -Wextra -o target/bench/stack bench/stack.c $side -lpthread
     target/bench/stack
 fi
-clang -O3 -std=gnu99 -Wall -Wextra -Wno-deprecated-declarations -o target/bench/box \
+clang -O3 -std=gnu99 -ffp-contract=off -Wall -Wextra -Wno-deprecated-declarations -o target/bench/box \
     bench/box_bench.c bench/box.c bench/sha1.c $side target/staticlib/libfields_export.a -lcrypto
 exec target/bench/box

@@ -27,7 +27,7 @@ typedef struct {
 
 static uint8_t store[STORE], first_store[STORE], record[PLAIN_RECORD], first_record[PLAIN_RECORD];
 static uint8_t fresh[PLAIN_CONNECTION], connection[PLAIN_CONNECTION], key[KEY], out[PLAIN_ROOM], other[PLAIN_ROOM], digest[20];
-static uint8_t version[16], tag[32], value[384];
+static uint8_t version[16], tag[32], value[384], readings[PLAIN_READINGS];
 static uint64_t counts[2], held[16];
 static volatile uint32_t sink;
 
@@ -72,6 +72,15 @@ static void range_of(text *c, int i) {
     command(c, 1, 1, 12, body.at, body.n);
 }
 
+/* Every type that is built. */
+static void log_of(text *c) {
+    static const int types[] = {0, 1, 2, 6};
+    text log = {.n = 0}, body = {.n = 0};
+    for (int i = 0; i < 4; i++) number(&log, 1, types[i]);
+    bytes(&body, 6, log.at, log.n);
+    command(c, 1, 1, 24, body.at, body.n);
+}
+
 static void framed(text *to, const text *c, int64_t auth_type, size_t value_len) {
     text m;
     message(&m, 1, key, KEY, auth_type, c->at, c->n);
@@ -80,8 +89,25 @@ static void framed(text *to, const text *c, int64_t auth_type, size_t value_len)
 
 /* ---- The state */
 
+/* Four temperatures, all in Fahrenheit, and two utilizations, with names of 16 bytes: the most that a log has to write. */
+static void measured(void) {
+    readings[0] = 4;
+    readings[1] = 2;
+    for (int i = 0; i < 6; i++) {
+        uint8_t *at = readings + 2 + 22 * i;
+        at[0] = 1;
+        at[1] = 16;
+        memset(at + 2, 'a' + i, 16);
+        at[18] = 0x42; /* 98.6, and next to it */
+        at[19] = 0xc5;
+        at[20] = 0x33;
+        at[21] = (uint8_t)(0x33 + i);
+    }
+}
+
 static void fill(void) {
     text c, f;
+    measured();
     for (size_t i = 0; i < sizeof value; i++) value[i] = (uint8_t)(i * 7 + 1);
     for (size_t i = 0; i < sizeof tag; i++) tag[i] = (uint8_t)(i + 1);
     for (size_t i = 0; i < sizeof version; i++) version[i] = (uint8_t)(i + 9);
@@ -92,7 +118,8 @@ static void fill(void) {
         put_of(&c, i);
         framed(&f, &c, 1, sizeof value);
         memcpy(connection, fresh, sizeof fresh);
-        if (plain_answer(store, STORE, record, connection, f.at, f.n, out, sizeof out, counts) || connection[9]) fail("not put", "an entry");
+        if (plain_answer(store, STORE, record, connection, readings, sizeof readings, f.at, f.n, out, sizeof out, counts) || connection[9])
+            fail("not put", "an entry");
     }
     memcpy(first_store, store, STORE);
     memcpy(first_record, record, sizeof record);
@@ -105,7 +132,8 @@ enum { WHOLE, CHECK, MAC, DECODING, OPENSSL, WHATS };
 static uint32_t answer(int plain, const call *m, int closed) {
     memcpy(connection, fresh, sizeof fresh);
     connection[9] = (uint8_t)closed;
-    return (plain ? plain_answer : ridgeladle_answer)(store, STORE, record, connection, m->input.at, m->input.n, out, sizeof out, counts);
+    return (plain ? plain_answer : ridgeladle_answer)(store, STORE, record, connection, readings, sizeof readings, m->input.at, m->input.n, out,
+                                                      sizeof out, counts);
 }
 
 static void mac(int plain, const text *t) { (plain ? plain_hmac : ridgeladle_hmac)(key, KEY, t->at, t->n, digest); }
@@ -179,20 +207,23 @@ static void measure(call *m) {
 
 int main(void) {
     static call put = {.name = "signed PUT over an entry, value of 384"}, get = {.name = "signed GET, value of 384"},
-                range = {.name = "signed GETKEYRANGE of 32 keys"}, more = {.name = "refused: MORE, a byte is missing", .refusal = 5},
+                range = {.name = "signed GETKEYRANGE of 32 keys"}, log = {.name = "signed GETLOG of every type, six readings"},
+                more = {.name = "refused: MORE, a byte is missing", .refusal = 5},
                 closed = {.name = "refused: CLOSED", .refusal = 4, .closed = 1}, unsigned_ = {.name = "unsigned: closing reply"};
     fill();
     put_of(&put.told, 64);
     get_of(&get.told, 64);
     range_of(&range.told, 64);
+    log_of(&log.told);
     framed(&put.input, &put.told, 1, sizeof value);
     framed(&get.input, &get.told, 1, 0);
     framed(&range.input, &range.told, 1, 0);
+    framed(&log.input, &log.told, 1, 0);
     framed(&more.input, &put.told, 1, sizeof value);
     more.input.n--;
     framed(&closed.input, &get.told, 1, 0);
     framed(&unsigned_.input, &get.told, 0, 0);
-    call *all[] = {&put, &get, &range, &more, &closed, &unsigned_};
+    call *all[] = {&put, &get, &range, &log, &more, &closed, &unsigned_};
     for (size_t i = 0; i < sizeof all / sizeof *all; i++) measure(all[i]);
     return 0;
 }

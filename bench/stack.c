@@ -8,7 +8,7 @@
 #include "../include/ridgeladle.h"
 
 enum { STACK = 1 << 20, PAINT = 0xA5 };
-static uint8_t store[65536], record[2960], connections[8][32], out[4096], input[16384], key[128];
+static uint8_t store[65536], record[2960], connections[8][32], readings[134], out[4096], input[16384], key[128];
 static uint64_t counts[2];
 static size_t input_len;
 static uint8_t *connection;
@@ -16,7 +16,7 @@ static uint8_t *connection;
 static void *nothing(void *p) { return p; }
 
 static void *call(void *p) {
-    ridgeladle_answer(store, sizeof store, record, connection, input, input_len, out, sizeof out, counts);
+    ridgeladle_answer(store, sizeof store, record, connection, readings, sizeof readings, input, input_len, out, sizeof out, counts);
     return p;
 }
 
@@ -54,6 +54,8 @@ int main(int argc, char **argv) {
             ridgeladle_format(store, blocks <= sizeof store ? blocks : 0, record, key, unhex(word, key, sizeof key));
         else if (sscanf(line, "connect %u %u %u", &place, &number, &protected_) == 3)
             ridgeladle_connect(connections[place % 8], number, (uint8_t)protected_);
+        else if (sscanf(line, "measured %39999s", word) == 1)
+            unhex(word, readings, sizeof readings);
         else if (sscanf(line, "send %u %39999s", &place, word) == 2) {
             connection = connections[place % 8];
             input_len = unhex(word, input, sizeof input);

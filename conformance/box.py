@@ -2,7 +2,7 @@
 
 A call is named as in the header (include/ridgeladle.h), with what is lent to it and nothing else:
 
-    answer   store, record, connection, input, room        (room is the length of the reply buffer)
+    answer   store, record, connection, readings, input, room        (room is the length of the reply buffer)
     format   store, record, key
     connect  connection, number, protected
     find     store, key
@@ -21,7 +21,7 @@ import types
 
 import model
 
-GIVEN = {"answer": ("store", "record", "connection", "input", "room"), "format": ("store", "record", "key"),
+GIVEN = {"answer": ("store", "record", "connection", "readings", "input", "room"), "format": ("store", "record", "key"),
          "connect": ("connection", "number", "protected"), "find": ("store", "key"), "sha1": ("text",), "hmac": ("key", "text")}
 
 # What stands in a buffer that the box may write, before the call: no byte like its neighbours, and nothing that a box would write.
@@ -94,12 +94,12 @@ class Model:
     def answer(self, call):
         m, given = self.module, call.given
         box, connection = m.Box(given["store"], given["record"]), m.connection_of(given["connection"])
-        got = m.answer(box, connection, given["input"], given["room"])
+        got = m.answer(box, connection, given["readings"], given["input"], given["room"])
         out, counts = FILL[:given["room"]], FILL[:16]
         if got.refusal == 0:
             out, counts = got.reply + out[len(got.reply):], counted(got.taken, len(got.reply))
         return {"returned": got.refusal, "store": box.store, "record": box.record, "connection": m.connection_after(given["connection"], connection),
-                "input": given["input"], "out": out, "counts": counts}
+                "readings": given["readings"], "input": given["input"], "out": out, "counts": counts}
 
     def format(self, call):
         box = self.module.Box(call["store"], call["record"])
@@ -165,7 +165,7 @@ class Library:
     def __init__(self, path, prefix="ridgeladle_"):
         library = ctypes.CDLL(str(pathlib.Path(path).resolve()))
         pointer, size = ctypes.c_void_p, ctypes.c_size_t
-        forms = {"answer": (ctypes.c_uint32, pointer, size, pointer, pointer, pointer, size, pointer, size, pointer),
+        forms = {"answer": (ctypes.c_uint32, pointer, size, pointer, pointer, pointer, size, pointer, size, pointer, size, pointer),
                  "format": (ctypes.c_uint32, pointer, size, pointer, pointer, size), "connect": (None, pointer, ctypes.c_int64, ctypes.c_uint8),
                  "find": (ctypes.c_uint32, pointer, size, pointer, size, pointer), "sha1": (ctypes.c_uint32, pointer, size, pointer),
                  "hmac": (ctypes.c_uint32, pointer, size, pointer, size, pointer)}
@@ -190,10 +190,11 @@ class Library:
         return {"returned": returned, **{what: self.lent[what].back() for what in names}}
 
     def answer(self, call):
-        store, data, room = call["store"], call["input"], call["room"]
+        store, readings, data, room = call["store"], call["readings"], call["input"], call["room"]
         returned = self.calls.answer(self.lend("store", store), len(store), self.lend("record", call["record"]), self.lend("connection", call["connection"]),
-                                     self.lend("input", data), len(data), self.lend("out", FILL[:room]), room, self.lend("counts", FILL[:16]))
-        return self.after(returned, "store", "record", "connection", "input", "out", "counts")
+                                     self.lend("readings", readings), len(readings), self.lend("input", data), len(data),
+                                     self.lend("out", FILL[:room]), room, self.lend("counts", FILL[:16]))
+        return self.after(returned, "store", "record", "connection", "readings", "input", "out", "counts")
 
     def format(self, call):
         store, key = call["store"], call["key"]

@@ -1,6 +1,7 @@
 """The sample cases of a folder (answers.jsonl, calls.jsonl; README.md beside them has their form) as calls, with what each expects there to be after it.
 
-The cases are another model's answers. They speak of a table, not of a record: one that a record can't hold is left out and counted.
+The cases are another model's answers. They speak of a table, not of a record: one that a record can't hold is left out and counted. They are older than
+change request 1: one that sends messageType 24 or body field 6, which it changes, is left out and counted too.
 """
 import json
 import pathlib
@@ -8,9 +9,24 @@ import pathlib
 import box
 import model
 
+READINGS = bytes(model.READINGS)  # none lent
 
-class NotHeld(Exception):
-    """The layout of the device record can't hold the table of a case."""
+
+class LeftOut(Exception):
+    """Why a case is left out."""
+
+
+NOT_HELD, OLDER = "of a table that no record can hold", "of what change request 1 changes"
+
+
+def asks_for_log(data):
+    """Whether an input is a message whose command has messageType 24 or body field 6."""
+    try:
+        command = model.decode("Message", model.framed(data)[1] or b"").get(7, b"")
+        parts = [(number, model.fields_of(content)) for number, wire, content in model.fields_of(command) if number in (1, 2) and wire == 2]
+    except model.Refused:
+        return False
+    return any(number == 1 and (7, 0, 24) in fields or number == 2 and any(field[0] == 6 for field in fields) for number, fields in parts)
 
 
 def unhexed(said):
@@ -39,7 +55,7 @@ def record_bytes(said):
         data[at + 16:at + 80] = key[:64].ljust(64, b"\0")
         for m, scope in enumerate(acl["scopes"][:4]):
             if len(scope["permissions"]) > 9:
-                raise NotHeld  # the mask holds the set, and no more than nine are named
+                raise LeftOut(NOT_HELD)  # the mask holds the set, and no more than nine are named
             to, value = at + 80 + m * model.SCOPE_PLACE, bytes.fromhex(scope["value"])
             data[to], data[to + 1], data[to + 4] = scope["offset"], len(value), scope["tls"]
             data[to + 2:to + 4] = model.mask_of(set(scope["permissions"])).to_bytes(2, "big")
@@ -55,11 +71,13 @@ def connection_bytes(said):
 
 def answer_case(said):
     wanted = said["expect"]
+    if asks_for_log(bytes.fromhex(said["input"])):
+        raise LeftOut(OLDER)
     call = box.Call("answer", store=store_bytes(said["store"]), record=record_bytes(said["table"]), connection=connection_bytes(said["conn"]),
-                    input=bytes.fromhex(said["input"]), room=said["out_len"])
+                    readings=READINGS, input=bytes.fromhex(said["input"]), room=said["out_len"])
     after = {"returned": wanted["refusal"] or 0, "store": call["store"] if wanted["store"] == "same" else store_bytes(wanted["store"]),
              "record": call["record"] if wanted["table"] == "same" else record_bytes(wanted["table"]), "connection": connection_bytes(wanted["conn"]),
-             "input": call["input"], "out": box.FILL[:call["room"]], "counts": box.FILL[:16]}
+             "readings": READINGS, "input": call["input"], "out": box.FILL[:call["room"]], "counts": box.FILL[:16]}
     if not wanted["refusal"]:
         reply = bytes.fromhex(wanted["reply"])
         after.update(out=reply + after["out"][len(reply):], counts=box.counted(wanted["taken"], len(reply)))
@@ -98,17 +116,17 @@ def block_case(entry, wanted):
     part = model.message((2, entry.version), (3, entry.key), (5, entry.tag), (6, entry.algorithm or None))
     command = model.message((1, model.header_of(0, 1, model.TYPES["PUT"])), (2, model.message((1, part))))
     record = model.record_of(model.Table(0, (model.Acl(1, key, (model.Scope(frozenset(model.PERMISSIONS)),)),)))
-    call = box.Call("answer", store=bytes(512), record=record, connection=model.connect(0, 0), input=model.frame(model.signed(1, key, command), entry.value),
-                    room=4096)
+    call = box.Call("answer", store=bytes(512), record=record, connection=model.connect(0, 0), readings=READINGS,
+                    input=model.frame(model.signed(1, key, command), entry.value), room=4096)
     return call, {"store": wanted}
 
 
 def read(folder):
-    """Each case of a folder: its name, the call, and what is expected of things after it; None where a record can't hold it."""
+    """Each case of a folder: its name, and the call with what is expected of things after it, or why it is left out."""
     for name, made in ("answers.jsonl", answer_case), ("calls.jsonl", other_case):
         for number, line in enumerate((pathlib.Path(folder) / name).read_text().splitlines()):
             said = json.loads(line)
             try:
                 yield said.get("name") or f"{said['call']}, line {number + 1} of {name}", made(said)
-            except NotHeld:
-                yield said["name"], None
+            except LeftOut as why:
+                yield said["name"], str(why)

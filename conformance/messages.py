@@ -136,13 +136,18 @@ class Request:
         return dataclasses.replace(self, value=value)
 
 
-HEADER, KEYVALUE, RANGE, SETUP, SECURITY, AUTH = (7, 1), (7, 2, 1), (7, 2, 2), (7, 2, 3), (7, 2, 7), (5,)
+HEADER, KEYVALUE, RANGE, SETUP, GETLOG, SECURITY, AUTH = (7, 1), (7, 2, 1), (7, 2, 2), (7, 2, 3), (7, 2, 6), (7, 2, 7), (5,)
 
 
 def request(kind, body=None, value=b"", identity=1, key=b"", number=0, sequence=1, cluster=None):
     """`kind` is the name of an operation or a messageType; `body` a tree."""
     header = tree((1, cluster), (3, number), (4, sequence), (7, model.TYPES.get(kind, kind)))
     return Request(tree((4, 1), (5, tree((1, identity), (2, SIGNED))), (7, tree((1, header), (2, body)))), key, value)
+
+
+def log_tree(types):
+    """The body that asks for types of a log."""
+    return tree((6, tree(*((1, kind) for kind in types))))
 
 
 def scope_tree(permissions, offset=None, value=None, tls=None):

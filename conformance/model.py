@@ -1,22 +1,24 @@
-"""A model of the box, written from document 01, its readings (docs/DECISIONS.md) and the layouts of the device record and the connection alone.
+"""A model of the box, written from document 01, change request 1, their readings (docs/DECISIONS.md) and the layouts of the device record, the connection
+and the lent readings alone.
 
 Nothing here is taken from the Rattle code, so that the two can be held against each other. Store and device record are bytes, as the host lends them.
 The sections are document 01's. Numbers are signed.
 """
 import dataclasses
+import fractions
 import functools
 import hashlib
 import hmac
 
 # Document 003: messageTypes of the requests that are built, and status codes.
-TYPES = {"GET": 2, "PUT": 4, "DELETE": 6, "GETNEXT": 8, "GETPREVIOUS": 10, "GETKEYRANGE": 12, "GETVERSION": 16, "SETUP": 22, "SECURITY": 26,
-         "NOOP": 30, "FLUSHALLDATA": 32}
+TYPES = {"GET": 2, "PUT": 4, "DELETE": 6, "GETNEXT": 8, "GETPREVIOUS": 10, "GETKEYRANGE": 12, "GETVERSION": 16, "SETUP": 22, "GETLOG": 24,
+         "SECURITY": 26, "NOOP": 30, "FLUSHALLDATA": 32}
 BUILT = {number: name for name, number in TYPES.items()}
 STATUS = {"SUCCESS": 1, "HMAC_FAILURE": 2, "NOT_AUTHORIZED": 3, "VERSION_FAILURE": 4, "HEADER_REQUIRED": 6, "NOT_FOUND": 7, "VERSION_MISMATCH": 8,
           "NO_SPACE": 14, "NO_SUCH_HMAC_ALGORITHM": 15, "INVALID_REQUEST": 16, "CONNECTION_TERMINATED": 20}
-REFUSALS = {"OUT_SHORT": 1, "STORE_BAD": 2, "DEVICE_BAD": 3, "CLOSED": 4, "MORE": 5, "KEY_BAD": 6}
+REFUSALS = {"OUT_SHORT": 1, "STORE_BAD": 2, "DEVICE_BAD": 3, "CLOSED": 4, "MORE": 5, "KEY_BAD": 6, "READINGS_BAD": 7}
 
-READ, WRITE, DELETE, RANGE, SETUP, SECURITY = 0, 1, 2, 3, 4, 8
+READ, WRITE, DELETE, RANGE, SETUP, GETLOG, SECURITY = 0, 1, 2, 3, 4, 7, 8
 PERMISSIONS = {0, 1, 2, 3, 4, 5, 7, 8, 9}
 
 ROOM, MOST_MESSAGE, MOST_VALUE = 4096, 8192, 1024
@@ -203,6 +205,92 @@ def connection_after(data, connection):
     return bytes(after)
 
 
+# ---- Lent readings (134 bytes), and f32 as its 32 bits
+
+READINGS, READING_PLACE, MOST_NAME = 134, 22, 16
+MOST_TEMPERATURES, MOST_UTILIZATIONS = 4, 2
+INFINITE = 0x7f800000  # the bits of infinity without the sign: an f32 with all of them is infinite or no number
+
+
+@dataclasses.dataclass(frozen=True)
+class Reading:
+    """`bits` are the value's as lent; `unit` is looked at of a temperature alone: 0 Celsius, else Fahrenheit."""
+    name: bytes
+    bits: int
+    unit: int = 0
+
+
+@dataclasses.dataclass(frozen=True)
+class Readings:
+    temperatures: tuple = ()
+    utilizations: tuple = ()
+
+
+def reading_bytes(reading):
+    return bytes([reading.unit, len(reading.name)]) + reading.name.ljust(MOST_NAME, b"\0") + reading.bits.to_bytes(4, "big")
+
+
+def readings_bytes(readings):
+    temperatures, utilizations = (b"".join(map(reading_bytes, some)) for some in (readings.temperatures, readings.utilizations))
+    counts = bytes([len(readings.temperatures), len(readings.utilizations)])
+    return (counts + temperatures.ljust(MOST_TEMPERATURES * READING_PLACE, b"\0") + utilizations).ljust(READINGS, b"\0")
+
+
+def readings_of(data):
+    """The lent readings, or None where the area's length, a count or the length of a counted name is wrong. Nothing else is looked at."""
+    if len(data) != READINGS or data[0] > MOST_TEMPERATURES or data[1] > MOST_UTILIZATIONS:
+        return None
+
+    def reading_at(place):
+        at = 2 + READING_PLACE * place
+        length = data[at + 1]
+        return Reading(bytes(data[at + 2:at + 2 + length]), int.from_bytes(data[at + 18:at + 22], "big"), data[at]) if 1 <= length <= MOST_NAME else None
+
+    temperatures = tuple(map(reading_at, range(data[0])))
+    utilizations = tuple(map(reading_at, range(MOST_TEMPERATURES, MOST_TEMPERATURES + data[1])))
+    return None if None in temperatures + utilizations else Readings(temperatures, utilizations)
+
+
+def finite(bits):
+    return bits & INFINITE != INFINITE
+
+
+def number_of(bits):
+    """The number that the bits of a finite f32 stand for: a whole number of quanta, the quantum a power of two."""
+    exponent, fraction = bits >> 23 & 255, bits & (1 << 23) - 1
+    quanta, quantum = (fraction, -149) if exponent == 0 else (fraction + (1 << 23), exponent - 150)
+    return (-1) ** (bits >> 31) * quanta * fractions.Fraction(2) ** quantum
+
+
+def rounded(number):
+    """The bits of the f32 nearest to a rational number, of two equally near the one whose last bit is 0; infinity past the largest. 0 is positive."""
+    if number == 0:
+        return 0
+    size = abs(number)
+    quantum = max(-149, size.numerator.bit_length() - size.denominator.bit_length() - 25)  # at most the right one
+    while size / fractions.Fraction(2) ** quantum >= 1 << 24:
+        quantum += 1
+    quanta, left = divmod(size, fractions.Fraction(2) ** quantum)
+    half = fractions.Fraction(2) ** quantum / 2
+    quanta += left > half or left == half and quanta % 2 == 1
+    bits = quanta if quantum == -149 else (quantum + 150 << 23) + quanta - (1 << 23)
+    return min(bits, INFINITE) | (number < 0) << 31
+
+
+def celsius(bits):
+    """Fahrenheit to Celsius: subtract 32, times 5, over 9, each step rounded. What is not finite stays so."""
+    for step in (lambda x: x - 32), (lambda x: x * 5), (lambda x: x / 9):
+        if not finite(bits):
+            return bits
+        bits = rounded(step(number_of(bits)))
+    return bits
+
+
+def sent_bits(reading):
+    """The bits of a temperature as it would be sent."""
+    return reading.bits if reading.unit == 0 else celsius(reading.bits)
+
+
 # ---- Frame and fields
 
 WORD = 1 << 64
@@ -223,8 +311,14 @@ def varint(n):
     return bytes(out + bytes([n]))
 
 
+class F32(int):
+    """The bits of an f32, as content of a field: wire type 5."""
+
+
 def field(number, content):
-    """A field with shortest varints: of wire type 2 for bytes, else 0."""
+    """A field with shortest varints: of wire type 2 for bytes, 5 for an f32, else 0."""
+    if isinstance(content, F32):
+        return varint(number * 8 + 5) + content.to_bytes(4, "little")
     if isinstance(content, bytes):
         return varint(number * 8 + 2) + varint(len(content)) + content
     return varint(number * 8) + varint(content)
@@ -270,34 +364,42 @@ def fields_of(data):
     return found
 
 
-# Listed fields: s int64, i int32 (also an enum that is judged later), a set the named values of an enum, b bytes, f bool, o bytes not looked into,
+# Listed fields: s int64, i int32 (also an enum that is judged later), a set the named values of an enum, b bytes, f bool, w f32, o bytes not looked into,
 # r refused if present, or the kind of a message.
 LISTED = {
     "Message": {4: "i", 5: "HMACauth", 6: "o", 7: "b"},
     "HMACauth": {1: "s", 2: "b"},
     "Command": {1: "Header", 2: "Body", 3: "o"},
     "Header": {1: "s", 3: "s", 4: "s", 6: "s", 7: "i", 9: "s", 10: "f", 12: {1, 3, 5, 7, 9}, 13: "s", 14: "r"},
-    "Body": {1: "KeyValue", 2: "Range", 3: "Setup", 7: "Security", 4: "r", 6: "r", 8: "r", 9: "r", 10: "r"},
+    "Body": {1: "KeyValue", 2: "Range", 3: "Setup", 6: "GetLog", 7: "Security", 4: "r", 8: "r", 9: "r", 10: "r"},
     "KeyValue": {2: "b", 3: "b", 4: "b", 5: "b", 6: {1, 2, 3, 4, 5, 6}, 7: "f", 8: "f", 9: {1, 2, 3}},
     "Range": {1: "b", 2: "b", 3: "f", 4: "f", 5: "i", 6: "f", 8: "r"},
     "Setup": {1: "s", 5: "r"},
+    "GetLog": {1: set(range(8))},
     "Security": {2: "ACL"},
     "ACL": {1: "s", 2: "b", 3: "i", 4: "Scope"},
     "Scope": {1: "s", 2: "b", 3: "i", 4: "f"},
     # for reading replies
     "Reply": {1: "Header", 2: "ReplyBody", 3: "Status"},
-    "ReplyBody": {1: "KeyValue", 2: "ReplyRange", 3: "Setup", 7: "Security", 4: "r", 6: "r", 8: "r", 9: "r", 10: "r"},
+    "ReplyBody": {1: "KeyValue", 2: "ReplyRange", 3: "Setup", 6: "ReplyLog", 7: "Security", 4: "r", 8: "r", 9: "r", 10: "r"},
     "ReplyRange": {1: "b", 2: "b", 3: "f", 4: "f", 5: "i", 6: "f", 8: "b"},
+    "ReplyLog": {2: "Utilization", 3: "Temperature", 4: "Capacity", 8: "Limits"},
+    "Utilization": {1: "b", 2: "w"},
+    "Temperature": {1: "b", 2: "w"},
+    "Capacity": {4: "s", 5: "w"},
+    "Limits": {1: "s", 2: "s", 3: "s", 4: "s", 8: "s", 9: "s", 10: "s"},
     "Status": {1: set(STATUS.values())},
 }
-REPEATED = {("Security", 2), ("ACL", 4), ("Scope", 3), ("ReplyRange", 8)}
+REPEATED = {("GetLog", 1), ("Security", 2), ("ACL", 4), ("Scope", 3), ("ReplyRange", 8), ("ReplyLog", 2), ("ReplyLog", 3)}
 STRICT = {"Security", "ACL", "Scope"}
 
 
 def decoded_field(form, wire, content):
     number = form in ("s", "i", "f") or isinstance(form, set)
-    if form == "r" or wire != (0 if number else 2):
+    if form == "r" or wire != (0 if number else 5 if form == "w" else 2):
         raise Refused
+    if form == "w":
+        return F32(int.from_bytes(content, "little"))
     if not number:
         return content if form == "b" else None if form == "o" else decode(form, content)
     value = content - WORD if content >> 63 else content
@@ -367,12 +469,12 @@ def fits(scope, key):
 
 
 def permits(acl, protected, permission, key):
-    """`key` is None for SETUP and SECURITY, which fit any key."""
+    """`key` is None for SETUP, GETLOG and SECURITY, which fit any key."""
     return any(permission in s.permissions and (protected or not s.tls) and (key is None or fits(s, key)) for s in acl.scopes)
 
 
 NEEDED = {"GET": READ, "GETVERSION": READ, "GETNEXT": READ, "GETPREVIOUS": READ, "PUT": WRITE, "DELETE": DELETE, "GETKEYRANGE": RANGE,
-          "SETUP": SETUP, "SECURITY": SECURITY}
+          "SETUP": SETUP, "GETLOG": GETLOG, "SECURITY": SECURITY}
 KEYED = {"GET", "GETVERSION", "GETNEXT", "GETPREVIOUS", "PUT", "DELETE"}
 
 
@@ -414,13 +516,22 @@ def asked_acls(part):
     return tuple(acls)
 
 
+# Document 003's types of a log.
+UTILIZATIONS, TEMPERATURES, CAPACITIES, CONFIGURATION, STATISTICS, MESSAGES, LIMITS, DEVICE = range(8)
+
+
+def log_good(part):
+    types = part.get(1, [])
+    return types != [] and not {CONFIGURATION, STATISTICS, MESSAGES} & set(types)
+
+
 def body_fault(operation, body, value):
     """0, or the code of what is wrong with the body and the value part."""
     if len(value) > (384 if operation == "PUT" else 0):
         return 16
     if operation in ("NOOP", "FLUSHALLDATA"):
         return 0
-    number = 1 if operation in KEYED else {"GETKEYRANGE": 2, "SETUP": 3, "SECURITY": 7}[operation]
+    number = 1 if operation in KEYED else {"GETKEYRANGE": 2, "SETUP": 3, "GETLOG": 6, "SECURITY": 7}[operation]
     part = body.get(number)
     if part is None:
         return 16
@@ -428,6 +539,8 @@ def body_fault(operation, body, value):
         return 0 if key_value_good(operation, part) else 16
     if operation == "GETKEYRANGE":
         return 0 if range_good(part) else 16
+    if operation == "GETLOG":
+        return 0 if log_good(part) else 16
     if operation == "SECURITY":
         acls = asked_acls(part)
         if acls is None or not acls_good(acls):
@@ -472,7 +585,32 @@ def keys_in_range(entries, part):
     return (keys[::-1] if part.get(6) else keys)[:most]
 
 
-def perform(box, operation, body, value):
+# What the limits show: key, value, version, tag, message, range count, identities.
+SHOWN_LIMITS = ((1, 64), (2, 384), (3, 16), (4, 32), (8, MOST_MESSAGE), (9, 32), (10, 8))
+
+
+def named_value(name, bits):
+    """A utilization or a temperature: a value that is not finite is left out."""
+    return message((1, name), (2, F32(bits) if finite(bits) else None))
+
+
+def get_log(box, entries, readings, types):
+    if DEVICE in types:
+        return 7, b"", b""
+    parts = []
+    if UTILIZATIONS in types:
+        parts += [(2, named_value(u.name, u.bits)) for u in readings.utilizations]
+    if TEMPERATURES in types:
+        parts += [(3, named_value(t.name, sent_bits(t))) for t in readings.temperatures]
+    if CAPACITIES in types:
+        blocks = len(box.store) // BLOCK
+        parts.append((4, message((4, blocks * BLOCK), (5, F32(rounded(fractions.Fraction(len(entries), blocks)))))))
+    if LIMITS in types:
+        parts.append((8, message(*SHOWN_LIMITS)))
+    return 1, message((6, message(*parts))), b""
+
+
+def perform(box, readings, operation, body, value):
     entries = entries_of(box.store)
     if operation in KEYED:
         part = body[1]
@@ -490,6 +628,8 @@ def perform(box, operation, body, value):
         return key_value(found[0], part.get(7, False))
     if operation == "GETKEYRANGE":
         return 1, message((2, message(*((8, key) for key in keys_in_range(entries, body[2]))))), b""
+    if operation == "GETLOG":
+        return get_log(box, entries, readings, body[6][1])
     if operation == "SETUP" and 1 in body[3]:
         box.record = body[3][1].to_bytes(8, "big", signed=True) + box.record[8:]
     if operation == "SECURITY":
@@ -515,7 +655,7 @@ def close(connection, code):
     return closing_reply(connection, code)
 
 
-def respond(box, connection, data, value):
+def respond(box, connection, readings, data, value):
     """Steps 1 to 10: the reply to a whole message."""
     told = decoded("Message", data)
     if told is None or told.get(4) != 1 or 5 not in told or 1 not in told[5] or 7 not in told:
@@ -528,11 +668,11 @@ def respond(box, connection, data, value):
         return reply(acl, connection, None, -1, 16, b"", b"")
     header = command.get(1, {})
     operation = BUILT.get(header.get(7))
-    code, body, sent = judge(box, acl, connection, header, operation, command.get(2, {}), value)
+    code, body, sent = judge(box, acl, connection, readings, header, operation, command.get(2, {}), value)
     return reply(acl, connection, header.get(4), TYPES[operation] - 1 if operation else -1, code, body if code == 1 else b"", sent)
 
 
-def judge(box, acl, connection, header, operation, body, value):
+def judge(box, acl, connection, readings, header, operation, body, value):
     """Steps 4 to 10."""
     if 3 not in header or 4 not in header:
         return 6, b"", b""
@@ -548,7 +688,7 @@ def judge(box, acl, connection, header, operation, body, value):
         return fault, b"", b""
     if not permitted(acl, connection.protected, operation, body):
         return 3, b"", b""
-    return perform(box, operation, body, value)
+    return perform(box, readings, operation, body, value)
 
 
 # ---- The calls
@@ -561,8 +701,8 @@ class Answer:
     taken: int = 0
 
 
-def answer(box, connection, data, room=ROOM):
-    """The answering call; it changes the box and the connection."""
+def answer(box, connection, lent, data, room=ROOM):
+    """The answering call, with the bytes of the lent readings; it changes the box and the connection."""
     if room < ROOM:
         return Answer(1)
     if entries_of(box.store) is None:
@@ -574,9 +714,12 @@ def answer(box, connection, data, room=ROOM):
     how, data_read, value = framed(data)
     if how == "MORE":
         return Answer(5)
+    readings = readings_of(lent)
+    if readings is None:
+        return Answer(7)
     if how == "CLOSES":
         return Answer(0, close(connection, 20), len(data))
-    return Answer(0, respond(box, connection, data_read, value), 9 + len(data_read) + len(value))
+    return Answer(0, respond(box, connection, readings, data_read, value), 9 + len(data_read) + len(value))
 
 
 def format_box(box, key):

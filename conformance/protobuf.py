@@ -4,6 +4,7 @@ What protoc reads in a reply must be what the model reads in it, with document 0
 varints) must be the reply's own bytes again.
 """
 import ast
+import fractions
 import pathlib
 import subprocess
 
@@ -29,8 +30,18 @@ def protoc(how, data):
     return told.stdout
 
 
+FLOATS = {"value", "current", "portionFull"}  # of a log, the only messages of a reply that have these names
+
+
+def bits_of(word):
+    """The bits of the f32 that protoc writes as a decimal."""
+    negative = word.startswith("-")
+    bits = model.rounded(abs(fractions.Fraction(word)))
+    return bits | negative << 31
+
+
 def lines_read(text):
-    """protoc's text as a list of (name, content), a content being a word of the text or again a list."""
+    """protoc's text as a list of (name, content), a content being a word of the text, the bits of an f32, or again a list."""
     found = []
     inside = [found]
     for line in text.decode().splitlines():
@@ -43,7 +54,7 @@ def lines_read(text):
             inside.append(inner)
         else:
             name, _, content = line.partition(": ")
-            inside[-1].append((name, ast.literal_eval("b" + content) if content.startswith('"') else content))
+            inside[-1].append((name, ast.literal_eval("b" + content) if content.startswith('"') else bits_of(content) if name in FLOATS else content))
     return found
 
 
@@ -61,13 +72,29 @@ def expected(reply):
     shown += [("messageType", TYPES[header[7]])] if 7 in header else []
     parts = [("header", shown)]
     if body is not None:
-        parts.append(("body", [("keyValue", pair_shown(body[1])) if 1 in body else ("range", [("keys", key) for key in body[2].get(8, [])])]))
+        parts.append(("body", [("keyValue", pair_shown(body[1])) if 1 in body else ("getLog", log_shown(body[6])) if 6 in body else
+                               ("range", [("keys", key) for key in body[2].get(8, [])])]))
     return message, parts + [("status", [("code", CODES[command[3][1]])])]
 
 
 def pair_shown(pair):
     names = {3: "key", 4: "dbVersion", 5: "tag"}
     return [(names[n], pair[n]) for n in (3, 4, 5) if n in pair] + ([("algorithm", ALGORITHMS[pair[6]])] if 6 in pair else [])
+
+
+LIMITS = {1: "maxKeySize", 2: "maxValueSize", 3: "maxVersionSize", 4: "maxTagSize", 8: "maxMessageSize", 9: "maxKeyRangeCount", 10: "maxIdentityCount"}
+
+
+def log_shown(log):
+    shown = [("utilizations", named(u, {1: "name", 2: "value"})) for u in log.get(2, [])]
+    shown += [("temperatures", named(t, {1: "name", 2: "current"})) for t in log.get(3, [])]
+    shown += [("capacity", named(log[4], {4: "nominalCapacityInBytes", 5: "portionFull"}))] if 4 in log else []
+    return shown + ([("limits", named(log[8], LIMITS))] if 8 in log else [])
+
+
+def named(fields, names):
+    """The fields of a message with document 003's names: bytes, the bits of an f32, or a number as a word."""
+    return [(names[n], content if isinstance(content, (bytes, model.F32)) else str(content)) for n, content in sorted(fields.items())]
 
 
 def batch(replies):

@@ -8,8 +8,8 @@ import dataclasses
 
 import model
 from box import Call, reply_of
-from messages import HEADER, Request, acl_tree, part, request, scope_tree, security_tree, sub, tree
-from model import ROOM, Acl, Entry, Scope, Table
+from messages import HEADER, Request, acl_tree, log_tree, part, request, scope_tree, security_tree, sub, tree
+from model import ROOM, Acl, Entry, Reading, Readings, Scope, Table
 
 KEY, NUMBER = b"key-of-one", 7
 ALL = frozenset(model.PERMISSIONS)
@@ -42,6 +42,12 @@ FULL = model.store_of(map(entry, range(128)), 65536)
 NEW_KEY = b"another key"
 
 
+# 36.6 as Celsius, 98.6 as Fahrenheit (37), a quarter and nothing.
+TEMPERATURES = (Reading(b"HDA", 0x42126666), Reading(b"board", 0x42c53333, 1))
+UTILIZATIONS = (Reading(b"EN0", 0x3e800000), Reading(b"EN1", 0))
+READINGS = model.readings_bytes(Readings(TEMPERATURES, UTILIZATIONS))
+
+
 def ask(kind, body=None, value=b"", **given):
     return request(kind, body, value, **{"key": KEY, "number": NUMBER, **given})
 
@@ -56,6 +62,10 @@ def ranged(start=b"a", end=b"z", **fields):
     return ask("GETKEYRANGE", tree((2, tree((1, start), (2, end), *((int(name[1:]), content) for name, content in sorted(fields.items()))))))
 
 
+def logged(*types, **given):
+    return ask("GETLOG", log_tree(types), **given)
+
+
 def secured(*acls, **given):
     return ask("SECURITY", security_tree(*acls), **given)
 
@@ -65,7 +75,7 @@ ONE_SCOPE = scope_tree([0, 8])
 GOOD = {"NOOP": ask("NOOP"), "FLUSHALLDATA": ask("FLUSHALLDATA"), "GET": keyed("GET"), "GETVERSION": keyed("GETVERSION"),
         "GETNEXT": keyed("GETNEXT"), "GETPREVIOUS": keyed("GETPREVIOUS", b"key2"), "GETKEYRANGE": ranged(),
         "PUT": keyed("PUT", b"key1", b"new value", f2=b"v1", f5=b"tag1", f6=4), "DELETE": keyed("DELETE", f4=b"v0"),
-        "SETUP": ask("SETUP", tree((3, tree((1, 5))))), "SECURITY": secured(acl_tree(1, NEW_KEY, ONE_SCOPE))}
+        "SETUP": ask("SETUP", tree((3, tree((1, 5))))), "GETLOG": logged(0, 1, 2, 6), "SECURITY": secured(acl_tree(1, NEW_KEY, ONE_SCOPE))}
 KEYED = ["GET", "GETVERSION", "GETNEXT", "GETPREVIOUS", "PUT", "DELETE"]
 
 
@@ -89,7 +99,7 @@ def success(**more):
 OK, UNDECODED, UNREAD, UNSIGNED, UNBUILT, INVALID = Says(1, 10), Says(16, 3), Says(20, 1), Says(2, 2), Says(16, 7), Says(16, 8)
 HEADERLESS, OTHER_CLUSTER, OUT_OF_TURN, UNKNOWN_HMAC, FORBIDDEN = Says(6, 4), Says(4, 5), Says(16, 6), Says(15, 8), Says(3, 9)
 NOT_FOUND, MISMATCH, NO_SPACE = Says(7, 10), Says(8, 10), Says(14, 10)
-OUT_SHORT, STORE_BAD, DEVICE_BAD, CLOSED, MORE, KEY_BAD = map(Refusal, (1, 2, 3, 4, 5, 6))
+OUT_SHORT, STORE_BAD, DEVICE_BAD, CLOSED, MORE, KEY_BAD, READINGS_BAD = map(Refusal, (1, 2, 3, 4, 5, 6, 7))
 
 
 @dataclasses.dataclass(frozen=True)
@@ -127,8 +137,9 @@ class Rows(list):
         self.append(Row(self.sentence, what, {}, [(Call(name, **given), wanted)]))
 
 
-def answer_call(given, store=STORE, record=RECORD, connection=CONNECTION, room=ROOM, null=False):
-    return Call("answer", null, store=store, record=record, connection=connection, input=given.bytes() if isinstance(given, Request) else given, room=room)
+def answer_call(given, store=STORE, record=RECORD, connection=CONNECTION, readings=READINGS, room=ROOM, null=False):
+    data = given.bytes() if isinstance(given, Request) else given
+    return Call("answer", null, store=store, record=record, connection=connection, readings=readings, input=data, room=room)
 
 
 def turned(data, place, bit):
@@ -182,9 +193,11 @@ def wanted_parts(wanted, before, header):
 def read_more(asked, after, told, command, value):
     body = command.get(2, {})
     pair, table = body.get(1, {}), model.table_of(after["record"])
-    entries = model.entries_of(after["store"]) or []
+    entries, log = model.entries_of(after["store"]) or [], body.get(6, {})
     has = {"value": value, "keys": body.get(2, {}).get(8, []), "key": pair.get(3), "version": pair.get(4), "tag": pair.get(5), "algorithm": pair.get(6),
            "parts": sorted(body), "fields": sorted(pair), "taken": reply_of(after)[1], "reply": reply_of(after)[0].hex(" "), "count": len(entries),
+           "log": sorted(log), "capacity": log.get(4), "limits": log.get(8), "utilizations": [(u.get(1), u.get(2)) for u in log.get(2, [])],
+           "temperatures": [(t.get(1), t.get(2)) for t in log.get(3, [])],
            "entry": entries[0] if entries else None, "cluster": table and table.cluster, "acls": table and table.acls,
            "signed": told.get(5, {}).get(2) == model.hmac_of(asked["signed with"], told[7]) if "signed with" in asked else None,
            "block": after["store"][:512].hex()}

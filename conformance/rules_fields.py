@@ -2,7 +2,7 @@
 import dataclasses
 
 import model
-from messages import AUTH, HEADER, KEYVALUE, RANGE, SECURITY, SETUP, Field, Fixed, acl_tree, encoded, long_varint, scope_tree, sub, tree
+from messages import AUTH, GETLOG, HEADER, KEYVALUE, RANGE, SECURITY, SETUP, Field, Fixed, acl_tree, encoded, long_varint, scope_tree, sub, tree
 from model import Acl, Entry, frame, varint
 from rows import (GOOD, INVALID, KEY, LEAST, MISMATCH, MOST, NEW_KEY, OK, ONE_SCOPE, OTHER_CLUSTER, UNBUILT, UNDECODED, UNKNOWN_HMAC, UNREAD, Says,
                   ask, connection, keyed, ranged, record, scope, secured, success)
@@ -43,9 +43,10 @@ def frames(rows):
 
 # Where each kind of message stands: an operation whose good request holds it, and the way to it.
 PLACES = {"Message": ("PUT", ()), "HMACauth": ("PUT", AUTH), "Command": ("PUT", (7,)), "Header": ("PUT", HEADER), "Body": ("PUT", (7, 2)),
-          "KeyValue": ("PUT", KEYVALUE), "Range": ("GETKEYRANGE", RANGE), "Setup": ("SETUP", SETUP), "Security": ("SECURITY", SECURITY),
+          "KeyValue": ("PUT", KEYVALUE), "Range": ("GETKEYRANGE", RANGE), "Setup": ("SETUP", SETUP), "GetLog": ("GETLOG", GETLOG),
+          "Security": ("SECURITY", SECURITY),
           "ACL": ("SECURITY", SECURITY + (2,)), "Scope": ("SECURITY", SECURITY + (2, 4))}
-UNUSED = {kind: ask("NOOP", sub(sub(GOOD[PLACES[kind][0]].message, 7), 2)) for kind in ("KeyValue", "Range", "Setup", "Security", "ACL", "Scope")}
+UNUSED = {kind: ask("NOOP", sub(sub(GOOD[PLACES[kind][0]].message, 7), 2)) for kind in ("KeyValue", "Range", "Setup", "GetLog", "Security", "ACL", "Scope")}
 
 
 def refused_at(kind):
@@ -221,6 +222,7 @@ def numbers(rows):
         rows.row(f"maxReturned {name} in a NOOP", OK if inside else UNDECODED, UNUSED["Range"].at(*RANGE, f5=n))
         rows.row(f"hmacAlgorithm {name}", UNKNOWN_HMAC if inside else UNDECODED, secured(acl_tree(1, NEW_KEY, ONE_SCOPE, algorithm=n)))
         rows.row(f"permission {name}", INVALID if inside else UNDECODED, secured(acl_tree(1, NEW_KEY, scope_tree([0, n]))))
+        rows.row(f"type {name} of a log", UNDECODED, GOOD["GETLOG"].adding((1, n), to=GETLOG))
         rows.row(f"permission {name} in a NOOP", OK if inside else UNDECODED, UNUSED["Scope"].at(*SECURITY, 2, 4, f3=n))
         for what, way, number, host in (("priority", HEADER, 12, GOOD["NOOP"]), ("algorithm", KEYVALUE, 6, GOOD["PUT"]),
                                         ("synchronization", KEYVALUE, 9, GOOD["PUT"])):
@@ -257,6 +259,7 @@ def numbers(rows):
         rows.row(f"hmacAlgorithm {n} in a NOOP", OK, UNUSED["ACL"].at(*SECURITY, 2, f3=n))
         rows.row(f"hmacAlgorithm {n} of the second ACL", OK if n == 1 else UNKNOWN_HMAC,
                  secured(acl_tree(1, NEW_KEY, ONE_SCOPE), acl_tree(2, NEW_KEY, ONE_SCOPE, algorithm=n)))
+        rows.row(f"type {n} of a log in a NOOP", OK if 0 <= n <= 7 else UNDECODED, UNUSED["GetLog"].at(*GETLOG, f1=n))
         rows.row(f"authType {n}", OK if n == 1 else UNREAD, GOOD["NOOP"].at(f4=n))
     rows.says("Absent bytes are empty, flags false, clusterVersion and offset 0")
     rows.row("clusterVersion absent, the device's 0", OK, GOOD["NOOP"].at(*HEADER, f1=None))

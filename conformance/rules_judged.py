@@ -2,7 +2,7 @@
 import dataclasses
 
 import model
-from messages import AUTH, HEADER, KEYVALUE, SECURITY, acl_tree, encoded, scope_tree, security_tree, sub, tree
+from messages import AUTH, HEADER, KEYVALUE, SECURITY, acl_tree, encoded, log_tree, scope_tree, security_tree, sub, tree
 from model import Acl, Entry
 from rows import (ALL, FORBIDDEN, FULL, GOOD, HEADERLESS, INVALID, KEY, KEYED, LEAST, MOST, NEW_KEY, NOT_FOUND, NUMBER, OK, ONE_SCOPE, OTHER_CLUSTER,
                   OUT_OF_TURN, Says, UNBUILT, UNDECODED, UNKNOWN_HMAC, UNREAD, UNSIGNED, ask, connection, entry, keyed, ranged, record, scope,
@@ -95,7 +95,7 @@ def step_faults():
     yield "no connectionID", GOOD["NOOP"].at(*HEADER, f3=None), HEADERLESS
     yield "another cluster", GOOD["NOOP"].at(*HEADER, f1=4), OTHER_CLUSTER
     yield "another connection", GOOD["NOOP"].at(*HEADER, f3=8), OUT_OF_TURN
-    yield "GETLOG", GOOD["NOOP"].at(*HEADER, f7=24), UNBUILT
+    yield "PEER2PEERPUSH", GOOD["NOOP"].at(*HEADER, f7=28), UNBUILT
     yield "a key of 65", keyed("GET", b"k" * 65), INVALID
     yield "an unknown hmacAlgorithm", secured(acl_tree(1, NEW_KEY, ONE_SCOPE, algorithm=2)), UNKNOWN_HMAC
     yield "a PUT", keyed("PUT", b"A"), FORBIDDEN
@@ -108,7 +108,7 @@ FAULTS = [("authType 3", lambda r: r.at(f4=3), UNREAD), ("hmac wrong", lambda r:
           ("unknown identity", lambda r: r.at(*AUTH, f1=99), UNSIGNED), ("batchID", lambda r: r.adding((14, 1), to=HEADER), UNDECODED),
           ("no connectionID", lambda r: r.at(*HEADER, f3=None), HEADERLESS), ("another cluster", lambda r: r.at(*HEADER, f1=1), OTHER_CLUSTER),
           ("another connection", lambda r: r if sub(sub(sub(r.message, 7), 1), 3) is None else r.at(*HEADER, f3=8), OUT_OF_TURN),
-          ("an equal sequence", lambda r: r.at(*HEADER, f4=5), OUT_OF_TURN), ("messageType 24", lambda r: r.at(*HEADER, f7=24), UNBUILT),
+          ("an equal sequence", lambda r: r.at(*HEADER, f4=5), OUT_OF_TURN), ("messageType 28", lambda r: r.at(*HEADER, f7=28), UNBUILT),
           ("a value part", lambda r: r.valued(b"x"), INVALID), ("a negative offset", lambda r: r.adding((1, -1), to=SECURITY + (2, 4)), INVALID),
           ("hmacAlgorithm 2", lambda r: r.at(*SECURITY, 2, f3=2), UNKNOWN_HMAC), ("no permission", lambda r: r, FORBIDDEN)]
 
@@ -118,10 +118,10 @@ FAULTS = [("authType 3", lambda r: r.at(f4=3), UNREAD), ("hmac wrong", lambda r:
 def bodies(rows):
     rows.says("Its body part is present (NOOP and FLUSHALLDATA need none) and well formed: else 16")
     parts = {1: sub(sub(sub(GOOD["GET"].message, 7), 2), 1), 2: sub(sub(sub(GOOD["GETKEYRANGE"].message, 7), 2), 2), 3: tree((1, 0)),
-             7: sub(sub(sub(GOOD["SECURITY"].message, 7), 2), 7)}
+             6: tree((1, 1)), 7: sub(sub(sub(GOOD["SECURITY"].message, 7), 2), 7)}
     for operation in GOOD:
         free = operation in ("NOOP", "FLUSHALLDATA")
-        used = {**dict.fromkeys(KEYED, 1), "GETKEYRANGE": 2, "SETUP": 3, "SECURITY": 7}.get(operation)
+        used = {**dict.fromkeys(KEYED, 1), "GETKEYRANGE": 2, "SETUP": 3, "GETLOG": 6, "SECURITY": 7}.get(operation)
         rows.row(f"{operation} with no body", OK if free else INVALID, GOOD[operation].at(7, f2=None))
         rows.row(f"{operation} with an empty body", OK if free else INVALID, GOOD[operation].at(7, f2=[]))
         rows.row(f"{operation} with the other parts alone", OK if free else INVALID,
@@ -172,7 +172,8 @@ def bodies(rows):
                        ("nine ACLs, no identities", tree((7, tree(*[(2, [])] * 9)))),
                        ("a negative offset", security_tree(acl_tree(1, b"k", scope_tree([0], -1)))),
                        ("an hmacAlgorithm of 2", security_tree(acl_tree(1, b"k", ONE_SCOPE, algorithm=2))),
-                       ("permission 6", security_tree(acl_tree(1, b"k", scope_tree([6]))))):
+                       ("permission 6", security_tree(acl_tree(1, b"k", scope_tree([6])))), ("an empty GetLog", tree((6, []))),
+                       ("a GetLog of every type", log_tree(range(8)))):
         rows.row(f"NOOP with {name}", OK, ask("NOOP", part))
         rows.row(f"FLUSHALLDATA with {name}", OK, ask("FLUSHALLDATA", part))
 
@@ -243,9 +244,10 @@ def acl_rules(rows):
 # ---- Who may
 
 def who(rows):
-    rows.says("READ 0: GET, GETVERSION, GETNEXT, GETPREVIOUS. WRITE 1: PUT. DELETE 2: DELETE. RANGE 3: GETKEYRANGE. SETUP 4, SECURITY 8 likewise")
-    needs = {"GET": 0, "GETVERSION": 0, "GETNEXT": 0, "GETPREVIOUS": 0, "PUT": 1, "DELETE": 2, "GETKEYRANGE": 3, "SETUP": 4, "SECURITY": 8, "NOOP": None,
-             "FLUSHALLDATA": None}
+    rows.says("READ 0: GET, GETVERSION, GETNEXT, GETPREVIOUS. WRITE 1: PUT. DELETE 2: DELETE. RANGE 3: GETKEYRANGE. SETUP 4, SECURITY 8 likewise; "
+              "GETLOG (24, permission GETLOG 7, any key)")
+    needs = {"GET": 0, "GETVERSION": 0, "GETNEXT": 0, "GETPREVIOUS": 0, "PUT": 1, "DELETE": 2, "GETKEYRANGE": 3, "SETUP": 4, "GETLOG": 7,
+             "SECURITY": 8, "NOOP": None, "FLUSHALLDATA": None}
     for operation, made in GOOD.items():
         for n in sorted(ALL):
             good = needs[operation] in (n, None)
@@ -288,8 +290,8 @@ def who(rows):
     rows.row("one of four does", OK, GOOD["GET"], record=scoped(scope({0}, 0, b"x"), scope({1}), scope({0}, tls=True), scope({0}, 0, b"key")))
     rows.row("another identity's scope", FORBIDDEN, GOOD["GET"], record=record(Acl(1, KEY, (scope({1}),)), Acl(2, KEY, (scope(),))))
     rows.row("a scope that doesn't count", FORBIDDEN, GOOD["GET"], record=scoped(scope({1}), scope())[:25] + b"\1" + scoped(scope({1}), scope())[26:])
-    rows.says("SETUP and SECURITY fit any key")
-    for operation in "SETUP", "SECURITY":
+    rows.says("SETUP and SECURITY fit any key; GETLOG (24, permission GETLOG 7, any key)")
+    for operation in "SETUP", "SECURITY", "GETLOG":
         rows.row(operation, OK, GOOD[operation], record=scoped(scope(ALL, 64, b"none")))
         rows.row(operation + ", TlsRequired", FORBIDDEN, GOOD[operation], record=scoped(scope(ALL, 64, b"none", True)))
     rows.says("GETNEXT and GETPREVIOUS are judged by the key asked with; GETKEYRANGE by startKey and endKey, each through some scope")

@@ -5,12 +5,13 @@ import hashlib
 import model
 from messages import AUTH
 from model import Acl, Entry, Table, frame
-from rows import (ALL, CLOSED, DEVICE_BAD, ENTRIES, FULL, GOOD, KEY, LEAST, MORE, MOST, NEW_KEY, OK, OUT_SHORT, RECORD, STORE, STORE_BAD, UNREAD,
-                  UNSIGNED, Says, connection, entry, record, scope, success, turned)
+from rows import (ALL, CLOSED, DEVICE_BAD, ENTRIES, FULL, GOOD, KEY, LEAST, MORE, MOST, NEW_KEY, OK, OUT_SHORT, READINGS, READINGS_BAD, RECORD, STORE,
+                  STORE_BAD, UNREAD, UNSIGNED, Says, connection, entry, record, scope, success, turned)
 
 
 def refusals(rows):
     noop, bad_store, bad_record, closed = GOOD["NOOP"], b"\2" + STORE[1:], RECORD[:8] + b"\0" + RECORD[9:], connection(closed=1)
+    bad_readings = b"\5" + READINGS[1:]
     rows.says("OUT_SHORT: reply buffer under 4,096 bytes")
     for room in 0, 1, 4095:
         rows.row(f"{room} bytes", OUT_SHORT, noop, room=room)
@@ -18,12 +19,15 @@ def refusals(rows):
     for room in 4096, 4097, 16384:
         rows.row(f"{room} bytes", OK, noop, room=room)
     rows.says("Checked in this order")
-    wrong = [("room", 4095, OUT_SHORT), ("store", bad_store, STORE_BAD), ("record", bad_record, DEVICE_BAD), ("connection", closed, CLOSED)]
+    wrong = [("room", 4095, OUT_SHORT), ("store", bad_store, STORE_BAD), ("record", bad_record, DEVICE_BAD), ("connection", closed, CLOSED),
+             ("readings", bad_readings, READINGS_BAD)]
     for n in range(len(wrong)):
-        rows.row(f"{wrong[n][0]} and all that is judged after it", wrong[n][2], b"\x46", **{what: lent for what, lent, _ in wrong[n:]})
+        rows.row(f"{wrong[n][0]} and all that is judged after it", wrong[n][2], noop, **{what: lent for what, lent, _ in wrong[n:]})
+        rows.row(f"{wrong[n][0]}, all that is judged after it, and MORE", wrong[n][2] if wrong[n][2] is not READINGS_BAD else MORE, b"\x46",
+                 **{what: lent for what, lent, _ in wrong[n:]})
         for m in range(n + 1, len(wrong)):
             rows.row(f"{wrong[n][0]} and {wrong[m][0]}", wrong[n][2], noop, **{wrong[n][0]: wrong[n][1], wrong[m][0]: wrong[m][1]})
-        rows.row(f"{wrong[n][0]} and MORE", wrong[n][2], b"", **{wrong[n][0]: wrong[n][1]})
+        rows.row(f"{wrong[n][0]} and MORE", wrong[n][2] if wrong[n][2] is not READINGS_BAD else MORE, b"", **{wrong[n][0]: wrong[n][1]})
         rows.row(f"{wrong[n][0]} and a frame that closes", wrong[n][2], b"\0", **{wrong[n][0]: wrong[n][1]})
     rows.says("CLOSED: this connection was closed")
     for byte in 1, 2, 255:

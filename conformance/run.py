@@ -109,7 +109,7 @@ MODEL = "the model"
 
 
 def sampled(case):
-    if case is not None:
+    if not isinstance(case, str):
         call, wanted = case
 
         def held(after):
@@ -179,10 +179,10 @@ class Work:
 
     def gaps(self):
         """What the table of boundaries must have met: each refusal, and each operation with each code that document 01 can give it."""
-        wanted = {("refusal", n) for n in (1, 2, 3, 4, 5)} | {("none", code) for code in (2, 4, 6, 16, 20)}
+        wanted = {("refusal", n) for n in (1, 2, 3, 4, 5, 7)} | {("none", code) for code in (2, 4, 6, 16, 20)}
         for name in model.TYPES:
             wanted |= {(name, code) for code in (1, 4, 6, 16)} | ({(name, 3)} if name in model.NEEDED else set())
-        wanted |= {(name, 7) for name in ("GET", "GETVERSION", "GETNEXT", "GETPREVIOUS", "DELETE")}
+        wanted |= {(name, 7) for name in ("GET", "GETVERSION", "GETNEXT", "GETPREVIOUS", "DELETE", "GETLOG")}
         wanted |= {("PUT", 8), ("DELETE", 8), ("PUT", 14), ("SECURITY", 15)}
         return sorted(f"{name} {code}" for name, code in wanted - set(self.codes))
 
@@ -270,9 +270,10 @@ def told(done, part, seconds):
     if part == "boundaries":
         words += f", {len(done.plan.rows)} rows for {len({row.sentence for row in done.plan.rows})} sentences"
     if part == "samples":
-        held = sum(case is not None for _, case in done.plan.samples)
+        left_out = collections.Counter(case for _, case in done.plan.samples if isinstance(case, str))
         every = len(done.plan.samples)
-        words += f": {held} of {every} cases ({every - held} of a table that no record can hold)" if held else ": there are no sample cases"
+        words += f": {every - sum(left_out.values())} of {every} cases" if every else ": there are no sample cases"
+        words += f" ({', '.join(f'{number} {why}' for why, number in sorted(left_out.items()))})" if left_out else ""
     print(f"{words}, {len(done.found)} different{' or more' if done.found and part in SHARES else ''}  ({seconds:.0f} s)")
 
 

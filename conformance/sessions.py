@@ -16,9 +16,12 @@ from messages import HEADER, KEYVALUE, Field, Fixed, encoded, levels, part, repl
 MOST, LEAST = (1 << 63) - 1, -1 << 63
 EDGES = [0, 1, 2, 3, 5, 9, 32, 33, 63, 64, 65, 127, 128, 255, 256, (1 << 31) - 1, 1 << 31, 1 << 32, MOST, -1, -2, -(1 << 31), -(1 << 31) - 1, LEAST]
 LENGTHS = [0, 1, 2, 15, 16, 17, 31, 32, 33, 63, 64, 65, 66, 383, 384, 385]
-OPERATIONS = {"PUT": 30, "GET": 8, "GETVERSION": 4, "GETNEXT": 6, "GETPREVIOUS": 6, "GETKEYRANGE": 10, "DELETE": 12, "SETUP": 3, "SECURITY": 4, "NOOP": 3,
-              "FLUSHALLDATA": 2}
-PART = {**dict.fromkeys(("PUT", "GET", "GETVERSION", "GETNEXT", "GETPREVIOUS", "DELETE"), 1), "GETKEYRANGE": 2, "SETUP": 3, "SECURITY": 7}
+OPERATIONS = {"PUT": 30, "GET": 8, "GETVERSION": 4, "GETNEXT": 6, "GETPREVIOUS": 6, "GETKEYRANGE": 10, "DELETE": 12, "SETUP": 3, "GETLOG": 7, "SECURITY": 4,
+              "NOOP": 3, "FLUSHALLDATA": 2}
+PART = {**dict.fromkeys(("PUT", "GET", "GETVERSION", "GETNEXT", "GETPREVIOUS", "DELETE"), 1), "GETKEYRANGE": 2, "SETUP": 3, "GETLOG": 6, "SECURITY": 7}
+# Bits of f32: zeros, subnormals, ends, infinities, no numbers, and numbers near those that a site has.
+BITS = [0, 1 << 31, 1, 0x80000001, 0x007fffff, 0x00800000, 0x7f7fffff, 0xff7fffff, 0x7f800000, 0xff800000, 0x7fc00000, 0x7f800001, 0xffffffff, 0x3f800000,
+        0x3f000000, 0x42000000, 0x41ffffff, 0x42000001, 0x42c53333, 0x43540000, 0xc3e5d5c3, 0x7e4ccccc, 0x7e4ccccd, 0x4e000001, 0x4e000002]
 
 
 class Site:
@@ -30,6 +33,7 @@ class Site:
         self.store = self.drawn_store()
         self.record = self.drawn_record()
         self.connections = [self.drawn_connection() for _ in range(r.choice((1, 2, 3)))]
+        self.readings = self.drawn_readings()
 
     # -- lent state
 
@@ -93,6 +97,28 @@ class Site:
             data[8], data[11:16], data[24:] = r.choice((0, 1, 255)), r.randbytes(5), r.randbytes(8)
         return bytes(data)
 
+    def bits(self):
+        r = self.r
+        return r.choice((r.choice(BITS), r.getrandbits(32), r.randrange(0x41000000, 0x43c00000) | r.getrandbits(1) << 31))
+
+    def drawn_readings(self):
+        """Lent readings, sometimes with places that don't count and bytes after the names at random."""
+        r = self.r
+
+        def some(most):
+            return tuple(model.Reading(r.randbytes(r.choice((1, 3, 15, 16))) if r.random() < .5 else r.choice((b"HDA", b"EN0", b"board")), self.bits(),
+                                       r.choice((0, 0, 1, 1, 255))) for _ in range(r.randrange(most + 1)))
+        its = model.Readings(some(model.MOST_TEMPERATURES), some(model.MOST_UTILIZATIONS))
+        data = bytearray(model.readings_bytes(its))
+        if r.random() < .4:
+            counted = [*range(len(its.temperatures)), *range(4, 4 + len(its.utilizations))]
+            for place in range(6):
+                at = 2 + place * model.READING_PLACE
+                free = range(at + 2 + data[at + 1], at + 18) if place in counted else range(at, at + model.READING_PLACE)
+                for n in free:
+                    data[n] = r.randrange(256)
+        return bytes(data)
+
     # -- requests
 
     def versioned(self, key):
@@ -131,10 +157,17 @@ class Site:
         return tree((1, ends[0]), (2, ends[1]), *((number, r.choice((None, 0, 1, 2))) for number in (3, 4)), (5, r.choice((None, None, 0, 1, 2, 3, 31, 32))),
                     (6, r.choice((None, 0, 1))))
 
+    def log(self):
+        r = self.r
+        types = r.choices((0, 1, 2, 6), k=r.choice((1, 1, 2, 4, 6)))
+        if r.random() < .15:
+            types[r.randrange(len(types))] = r.choice((3, 4, 5, 7, 7))
+        return tree(*((1, kind) for kind in types))
+
     def body(self, operation):
         r, part = self.r, PART.get(operation)
         made = {1: lambda: self.key_value(operation), 2: self.range, 3: lambda: tree((1, r.choice((None, 0, 0, 1, -1, 7, r.choice(EDGES))))),
-                7: lambda: sub(table_tree(self.table()), 7)}
+                6: self.log, 7: lambda: sub(table_tree(self.table()), 7)}
         items = [Field(number, make()) for number, make in made.items() if number == part or r.random() < .03]
         return items if items or r.random() < .1 else None
 
@@ -247,11 +280,13 @@ class Site:
     # -- calls
 
     def call(self, n, data, room=model.ROOM):
-        return Call("answer", store=self.store, record=self.record, connection=self.connections[n], input=data, room=room)
+        return Call("answer", store=self.store, record=self.record, connection=self.connections[n], readings=self.readings, input=data, room=room)
 
     def went(self, n, after):
         """The state goes on; a connection that was closed is made anew."""
         self.store, self.record, self.connections[n] = after["store"], after["record"], after["connection"]
+        if self.r.random() < .2:
+            self.readings = self.drawn_readings()
         if self.connections[n][9]:
             self.connections[n] = self.drawn_connection()
 
@@ -287,10 +322,10 @@ def spoilt(site, n, data):
     """The call with a byte of what is lent changed: it goes on as if it had not been."""
     r = site.r
     call = site.call(n, data)
-    what = r.choice(("store", "store", "record", "record", "connection"))
+    what = r.choice(("store", "store", "record", "record", "connection", "readings", "readings"))
     changed = bytearray(call[what])
     telling = {"store": [at + n for at in range(0, len(changed), 512) for n in (*range(9), 72, 88, 120, 503, 507, 508, 511)],
-               "connection": [*range(11), 16, 23],
+               "connection": [*range(11), 16, 23], "readings": [0, 0, 0, 1, 1, 1, *(at + n for at in range(2, 134, 22) for n in (0, 1, 1, 1, 2, 17, 18, 21))],
                "record": [8, *(at + n for at in range(16, model.RECORD, model.ACL_PLACE) for n in (0, 7, 8, 9, *range(80, 85), *range(152, 156)))]}[what]
     for _ in range(r.choice((1, 1, 2, 4))):
         place = r.choice(telling) if r.random() < .7 else r.randrange(len(changed))
@@ -301,6 +336,8 @@ def spoilt(site, n, data):
                 changed[at + 508:at + 512] = sum(byte * (place + 1) for place, byte in enumerate(changed[at:at + 508])).to_bytes(4, "big")
     if what == "store" and r.random() < .1:
         changed = changed[:r.randrange(len(changed))]
+    if what == "readings" and r.random() < .3:
+        changed = (changed + changed)[:r.choice((0, 1, 112, 133, 135, 156, 268))]
     yield call.changed(**{what: bytes(changed)}), nothing_more
 
 

@@ -53,6 +53,18 @@ def record_lines(record):
         yield f"  identity {acl.identity}, key {text(acl.key)}: {scopes}"
 
 
+def readings_lines(lent):
+    readings = model.readings_of(lent)
+    if readings is None:
+        yield f"readings: {text(lent)} ({len(lent)} bytes), which break a rule"
+        return
+    yield f"readings: {len(readings.temperatures)} temperatures, {len(readings.utilizations)} utilizations"
+    for reading in readings.temperatures:
+        yield f"  {text(reading.name)} unit {reading.unit} ({'Celsius' if reading.unit == 0 else 'Fahrenheit'}) {reading.bits:08x}"
+    for reading in readings.utilizations:
+        yield f"  {text(reading.name)} {reading.bits:08x}"
+
+
 def call_lines(call):
     """What is lent to a call."""
     yield f"call: {call.name}" + (" (what has no bytes at NULL)" if call.null else "")
@@ -64,6 +76,8 @@ def call_lines(call):
         elif what == "connection" and call.name == "answer":
             its = model.connection_of(given)
             yield f"connection: number {its.number}, {'protected' if its.protected else 'plain'}{', closed' if its.closed else ''}, last sequence {its.last}"
+        elif what == "readings":
+            yield from readings_lines(given)
         elif what == "input":
             yield from input_lines(given)
         else:

@@ -1,5 +1,6 @@
 """The smallest case that can be found on which a box still differs from the model: calls before it are dropped, then entries, ACLs, scopes, fields at any
 depth (signed again where the message was), and bytes, as long as the difference stays."""
+import dataclasses
 import time
 
 import model
@@ -127,6 +128,24 @@ def records(call):
             yield call.changed(record=model.record_of(model.Table(table.cluster, rest[0] + other + rest[1])))
 
 
+def readings(call):
+    lent = call.given.get("readings")
+    if lent is None:
+        return
+    its = model.readings_of(lent)
+    if its is None:
+        yield call.changed(readings=lent[:model.READINGS])
+        return
+    if model.readings_bytes(its) != lent:
+        yield call.changed(readings=model.readings_bytes(its))
+    for name in "temperatures", "utilizations":
+        some = getattr(its, name)
+        for n, reading in enumerate(some):
+            for other in (), (model.Reading(reading.name[:1], reading.bits, min(reading.unit, 1)),), (model.Reading(reading.name[:1], 0),):
+                if other != (reading,):
+                    yield call.changed(readings=model.readings_bytes(dataclasses.replace(its, **{name: some[:n] + other + some[n + 1:]})))
+
+
 def shorter(data):
     """Bytes with parts left out: all, halves, quarters, .. single bytes."""
     size = len(data)
@@ -219,4 +238,4 @@ def smaller_items(item):
         yield from (item._replace(content=less) for less in shorter(item.content))
 
 
-STEPS = [plainer, stores, records, inputs]
+STEPS = [plainer, stores, records, readings, inputs]

@@ -15,7 +15,8 @@
 #include "../include/ridgeladle.h"
 #endif
 
-enum { PAGE = 4096, BLOCK = 512, MOST_STORE = 128 * BLOCK, MOST_INPUT = 12288, MOST_OUT = 5000, EDGE = 64, CALLS = 4, NUMBER = 7, KEY_LEN = 10 };
+enum { PAGE = 4096, BLOCK = 512, MOST_STORE = 128 * BLOCK, MOST_READINGS = 512, MOST_INPUT = 12288, MOST_OUT = 5000 };
+enum { EDGE = 64, CALLS = 4, NUMBER = 7, KEY_LEN = 10 };
 
 static void hold(int fact, const char *what) {
     if (!fact) {
@@ -26,7 +27,7 @@ static void hold(int fact, const char *what) {
 
 /* ---- Lent ranges */
 
-enum { STORE, RECORD, CONNECTION, INPUT, OUT, COUNTS, PARTS };
+enum { STORE, RECORD, CONNECTION, READINGS, INPUT, OUT, COUNTS, PARTS };
 
 typedef struct {
     uint8_t *at;
@@ -77,10 +78,12 @@ typedef struct {
     uint8_t record, record_place[2], record_change;
     uint8_t connection, last;
     uint8_t out, form, value, type, step, identity, end, sides;
+    uint8_t readings, readings_place, readings_change, bits[4];
 } choices;
 
-/* A store of 128 entries; a record as formatted, one of three ACLs, and the same with other bytes where the layout uses none; a value part. */
-static uint8_t full[MOST_STORE], formatted[PLAIN_RECORD], table[PLAIN_RECORD], littered[PLAIN_RECORD], filling[1025];
+/* A store of 128 entries; a record as formatted, one of three ACLs, and the same with other bytes where the layout uses none; readings, all six; a
+   value part. */
+static uint8_t full[MOST_STORE], formatted[PLAIN_RECORD], table[PLAIN_RECORD], littered[PLAIN_RECORD], every[MOST_READINGS], filling[1025];
 static const uint8_t key[KEY_LEN + 1] = "key-of-one";
 static const int64_t identities[] = {1, 3, -2, 99};
 
@@ -103,6 +106,22 @@ static void write_acl(uint8_t *at, int64_t identity, uint16_t mask, const char *
     memcpy(at + 88, value, strlen(value));
 }
 
+/* Temperatures in Celsius and Fahrenheit by turns, names of 1 to 16 bytes. What follows the 134 bytes is like them, for wrong lengths. */
+static void write_readings(void) {
+    static const uint8_t lengths[] = {1, 16, 3, 8, 16, 2};
+    for (size_t i = 0; i < sizeof every; i++) every[i] = (uint8_t)(i % 7);
+    every[0] = 4;
+    every[1] = 2;
+    for (int i = 0; i < 6; i++) {
+        uint8_t *at = every + 2 + 22 * i;
+        at[0] = (uint8_t)(i % 2);
+        at[1] = lengths[i];
+        memset(at + 2, 'a' + i, 16);
+        at[18] = 0x42;
+        at[19] = (uint8_t)(0x91 + 11 * i);
+    }
+}
+
 /* Identity 1 may all, 3 may all if protected, -2 may read and range what starts with "key0". */
 static void write_table(uint8_t *record, int unused) {
     memset(record, unused, PLAIN_RECORD);
@@ -114,7 +133,7 @@ static void write_table(uint8_t *record, int unused) {
 }
 
 static void prepare(void) {
-    static const size_t most[PARTS] = {MOST_STORE, PLAIN_RECORD, PLAIN_CONNECTION, MOST_INPUT, MOST_OUT, 2 * sizeof(uint64_t)};
+    static const size_t most[PARTS] = {MOST_STORE, PLAIN_RECORD, PLAIN_CONNECTION, MOST_READINGS, MOST_INPUT, MOST_OUT, 2 * sizeof(uint64_t)};
     for (int i = 0; i < PARTS; i++) pages[i] = new_pages(most[i]);
     for (int i = 0; i < 128; i++) {
         uint8_t *b = full + i * BLOCK;
@@ -134,6 +153,7 @@ static void prepare(void) {
     hold(plain_format(blank, BLOCK, formatted, key, KEY_LEN) == 0, "format");
     write_table(table, 0);
     write_table(littered, 0x5a);
+    write_readings();
     for (size_t i = 0; i < sizeof filling; i++) filling[i] = (uint8_t)(i * 13 + 1);
 }
 
@@ -179,6 +199,18 @@ static range connection_of(const choices *c, uint8_t *to) {
     return (range){to, PLAIN_CONNECTION};
 }
 
+/* All six; none, with all else zero; all with the value of one changed; a byte changed; of a wrong length; no bytes, which may be lent as NULL. */
+static range readings_of(const choices *c, uint8_t *to) {
+    enum { ALL, NONE, VALUE, DAMAGED, LENGTH, EMPTY, KINDS };
+    int kind = c->readings % KINDS;
+    size_t n = kind == LENGTH ? c->readings_change + (c->readings_change >= PLAIN_READINGS) : kind == EMPTY ? 0 : PLAIN_READINGS;
+    memcpy(to, every, n);
+    if (kind == NONE) memset(to, 0, n);
+    if (kind == VALUE) memcpy(to + 2 + 22 * (c->readings_place % 6) + 18, c->bits, 4);
+    if (kind == DAMAGED) to[c->readings_place % PLAIN_READINGS] ^= c->readings_change;
+    return (range){to, n};
+}
+
 /* The input: the rest of the fuzzer's bytes as they are; or as a message; or, signed, as a command, as a body, or as the part of a body that a
    message type needs. */
 static range input_of(const choices *c, const uint8_t *rest, size_t n, text *to) {
@@ -191,7 +223,7 @@ static range input_of(const choices *c, const uint8_t *rest, size_t n, text *to)
         push(to, rest, n);
     } else {
         int64_t identity = identities[c->identity % 4];
-        unsigned part = type == 12 ? 2 : type == 22 ? 3 : type == 26 ? 7 : 1;
+        unsigned part = type == 12 ? 2 : type == 22 ? 3 : type == 24 ? 6 : type == 26 ? 7 : 1;
         body.n = 0;
         if (form == 4) bytes(&body, part, rest, n);
         else push(&body, rest, n);
@@ -216,14 +248,15 @@ static range input_of(const choices *c, const uint8_t *rest, size_t n, text *to)
 static uint32_t call_plain(range r[PARTS]) {
     uint64_t counts[2];
     memcpy(counts, r[COUNTS].at, sizeof counts);
-    uint32_t said = plain_answer(r[STORE].at, r[STORE].n, r[RECORD].at, r[CONNECTION].at, r[INPUT].at, r[INPUT].n, r[OUT].at, r[OUT].n, counts);
+    uint32_t said = plain_answer(r[STORE].at, r[STORE].n, r[RECORD].at, r[CONNECTION].at, r[READINGS].at, r[READINGS].n, r[INPUT].at, r[INPUT].n,
+                                 r[OUT].at, r[OUT].n, counts);
     memcpy(r[COUNTS].at, counts, sizeof counts);
     return said;
 }
 
 static uint32_t call_ours(range r[PARTS], int null) {
-    return ridgeladle_answer(place(r[STORE], null), r[STORE].n, r[RECORD].at, r[CONNECTION].at, place(r[INPUT], null), r[INPUT].n,
-                             place(r[OUT], null), r[OUT].n, (uint64_t *)(void *)r[COUNTS].at);
+    return ridgeladle_answer(place(r[STORE], null), r[STORE].n, r[RECORD].at, r[CONNECTION].at, place(r[READINGS], null), r[READINGS].n,
+                             place(r[INPUT], null), r[INPUT].n, place(r[OUT], null), r[OUT].n, (uint64_t *)(void *)r[COUNTS].at);
 }
 
 /* What is known of every answer and refusal, without a second box. */
@@ -231,14 +264,15 @@ static void hold_rules(uint32_t said, range before[PARTS], range after[PARTS]) {
     const uint8_t *was = before[CONNECTION].at, *is = after[CONNECTION].at;
     uint64_t counts[2];
     memcpy(counts, after[COUNTS].at, sizeof counts);
-    hold(said <= 5, "an answer, or refusal 1 to 5");
+    hold(said <= 5 || said == 7, "an answer, or refusal 1 to 5 or 7");
     hold((said == 1) == (before[OUT].n < PLAIN_ROOM), "refusal 1 exactly for a short reply buffer");
-    hold(same(before[INPUT], after[INPUT]), "the input stays");
+    hold(same(before[INPUT], after[INPUT]) && same(before[READINGS], after[READINGS]), "input and readings stay");
     if (said) {
         for (int i = 0; i < PARTS; i++) hold(same(before[i], after[i]), "a refusal changes no byte");
         return;
     }
     hold(was[9] == 0, "a closed connection is refused");
+    hold(before[READINGS].n == PLAIN_READINGS && before[READINGS].at[0] <= 4 && before[READINGS].at[1] <= 2, "other readings are refused");
     hold(counts[0] >= 1 && counts[0] <= before[INPUT].n, "taken is within the input");
     hold(counts[1] >= 9 && counts[1] <= PLAIN_ROOM, "written is within 4,096");
     hold(after[OUT].at[0] == 0x46, "the reply is a frame");
@@ -280,7 +314,7 @@ static void find(range store, const uint8_t *asked, size_t n, int sides) {
 }
 
 int LLVMFuzzerTestOneInput(const uint8_t *data, size_t size) {
-    static uint8_t store[MOST_STORE], record[PLAIN_RECORD], connection[PLAIN_CONNECTION], out[MOST_OUT];
+    static uint8_t store[MOST_STORE], record[PLAIN_RECORD], connection[PLAIN_CONNECTION], readings[MOST_READINGS], out[MOST_OUT];
     static const size_t outs[] = {PLAIN_ROOM, 0, PLAIN_ROOM - 1, MOST_OUT};
     static text input;
     uint64_t counts[2] = {1, 2};
@@ -291,8 +325,8 @@ int LLVMFuzzerTestOneInput(const uint8_t *data, size_t size) {
     data += sizeof c;
     size -= sizeof c;
     for (size_t i = 0; i < sizeof out; i++) out[i] = (uint8_t)(i * 31 + 7);
-    range state[PARTS] = {store_of(&c, store), record_of(&c, record), connection_of(&c, connection), input_of(&c, data, size, &input),
-                          {out, outs[c.out % 4]}, {(uint8_t *)counts, sizeof counts}};
+    range state[PARTS] = {store_of(&c, store), record_of(&c, record), connection_of(&c, connection), readings_of(&c, readings),
+                          input_of(&c, data, size, &input), {out, outs[c.out % 4]}, {(uint8_t *)counts, sizeof counts}};
     for (int i = 0; i < CALLS && call(state, c.sides, c.sides >> 7) == 0; i++) {
         state[INPUT].at += counts[0];
         state[INPUT].n -= counts[0];

@@ -13,7 +13,7 @@ else
 fi
 mkdir -p target/fuzz/corpus target/fuzz/found
 fuzz/seeds.py target/fuzz/seeds
-clang -g -O2 -std=gnu99 -Wall -Wextra -fsanitize=fuzzer,address -o target/fuzz/answer \
+clang -g -O2 -std=gnu99 -Wall -Wextra -ffp-contract=off -fsanitize=fuzzer,address -o target/fuzz/answer \
     fuzz/answer.c bench/box.c bench/sha1.c $side
 log=target/fuzz/log
 if ! target/fuzz/answer -max_total_time="${T:-60}" -max_len=9400 -artifact_prefix=target/fuzz/found/ -print_final_stats=1 \

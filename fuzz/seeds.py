@@ -10,16 +10,19 @@ sys.path.insert(0, str(pathlib.Path(__file__).resolve().parent.parent / "conform
 from model import TYPES, field, frame, header_of, message, signed
 
 NUMBER, KEY = 7, b"key-of-one"
-ORDER = ["GET", "PUT", "DELETE", "GETNEXT", "GETPREVIOUS", "GETKEYRANGE", "GETVERSION", "SETUP", "SECURITY", "NOOP", "FLUSHALLDATA"]
+ORDER = ["GET", "PUT", "DELETE", "GETNEXT", "GETPREVIOUS", "GETKEYRANGE", "GETVERSION", "SETUP", "SECURITY", "NOOP", "FLUSHALLDATA", "GETLOG"]
 NO_STORE, BLANK, ENTRIES, FULL, DAMAGED, SEALED, LENGTH = range(7)
 RAW, MESSAGE, COMMAND, BODY, PART = range(5)
 NO_VALUE, VALUE_384, VALUE_385 = 0, 4, 5
+EVERY_READING, NO_READING, READING_VALUE, READING_DAMAGED, READINGS_LENGTH, READINGS_EMPTY = range(6)
 
 
 def seed(rest, form=PART, operation="GET", store=ENTRIES, blocks=3, entries=2, store_place=0, store_change=0, record=1, record_place=0,
-         record_change=0, connection=0, last=0, out=0, value=NO_VALUE, step=1, identity=0, end=0, sides=0):
+         record_change=0, connection=0, last=0, out=0, value=NO_VALUE, step=1, identity=0, end=0, sides=0, readings=EVERY_READING,
+         readings_place=0, readings_change=0, bits=0):
     return bytes([store, blocks, entries, *store_place.to_bytes(2, "big"), store_change, record, *record_place.to_bytes(2, "big"), record_change,
-                  connection, last, out, form, value, ORDER.index(operation), step, identity, end, sides]) + rest
+                  connection, last, out, form, value, ORDER.index(operation), step, identity, end, sides, readings, readings_place, readings_change,
+                  *bits.to_bytes(4, "big")]) + rest
 
 
 def key_values():
@@ -40,6 +43,37 @@ def ranges():
         yield seed(message((1, b"key001"), (2, b"key003"), *flags), operation="GETKEYRANGE", blocks=255, store=FULL)
     yield seed(message((1, b""), (2, b"\xff"), (5, 32)), operation="GETKEYRANGE", blocks=255, store=FULL)
     yield seed(message((1, b"key0"), (2, b"key02"), (5, 2)), operation="GETKEYRANGE", identity=2)
+
+
+def log(*types):
+    return message(*((1, kind) for kind in types))
+
+
+def logs():
+    for types in ((0,), (1,), (2,), (6,), (0, 1, 2, 6), (6, 6, 0, 2, 1, 0), (3,), (7,), (7, 5), (0, 7), (8,), (-1,), ()):
+        yield seed(log(*types), operation="GETLOG")
+    for used in range(0, 8, 3):
+        yield seed(log(2), operation="GETLOG", blocks=6, entries=used)
+    every = log(0, 1, 2, 6)
+    for identity in (1, 2):
+        yield seed(every, operation="GETLOG", identity=identity)
+    yield seed(every, operation="GETLOG", value=VALUE_384)
+    yield seed(message((1, b"\0\1")), operation="GETLOG")
+    yield seed(message((2, b"name")) + every + field(8, b"\xff"), operation="GETLOG")
+    yield seed(message((1, message((3, b"key000"))), (6, every)), form=BODY)
+    yield seed(message((6, every), (6, every)), form=BODY, operation="GETLOG")
+    for change in ({"readings": NO_READING}, {"readings": READINGS_EMPTY}, {"readings": READINGS_EMPTY, "sides": 0x80}, {"sides": 0x7f},
+                   *({"readings": READINGS_LENGTH, "readings_change": n} for n in (0, 1, 112, 133, 134, 255)),
+                   *({"readings": READING_DAMAGED, "readings_place": place, "readings_change": n}
+                     for place, n in ((0, 1), (0, 4), (1, 1), (1, 2), (2, 1), (3, 1), (3, 0x10), (25, 0x10), (69, 8), (91, 0x1f), (113, 2), (20, 0x3d),
+                                      (133, 1)))):
+        yield seed(every, operation="GETLOG", **change)
+        yield seed(b"", form=BODY, operation="NOOP", **change)
+        yield seed(every, operation="GETLOG", end=1, **change)
+    for bits in (0, 1, 1 << 31, 0x007fffff, 0x7f7fffff, 0x7f800000, 0xff800000, 0x7fc00000, 0x42000000, 0x42c53333, 0x43540000, 0xc3e5d5c3, 0x7e4ccccc,
+                 0x7e4ccccd, 0x4e000001):
+        for place in (0, 1, 5):
+            yield seed(every, operation="GETLOG", readings=READING_VALUE, readings_place=place, bits=bits)
 
 
 def scope(*permissions, offset=None, value=None, tls=None):
@@ -116,7 +150,7 @@ def limits():
 def main():
     folder = pathlib.Path(sys.argv[1])
     folder.mkdir(parents=True, exist_ok=True)
-    for part in (key_values, ranges, tables, others, states, limits):
+    for part in (key_values, ranges, logs, tables, others, states, limits):
         for n, data in enumerate(part()):
             (folder / f"{part.__name__}-{n:02}").write_bytes(data)
 

@@ -1,6 +1,6 @@
 /* Ridgeladle: a proved Kinetic 3.1.0 storage box, as calls over lent bytes.
 
-   The box keeps nothing between calls: the host lends the store, the device record and the connection to each call. A call always
+   The box keeps nothing between calls: the host lends the store, the device record, the connection and its readings to each call. A call always
    returns, takes no memory from the heap and calls nothing outside but memcpy and memset. What each call answers, and every lent
    byte after it, is proved for every input; the contracts stand in crates/abi/src/lib.rt.
 
@@ -26,6 +26,7 @@ enum {
     RIDGELADLE_BLOCK = 512,      /* a store is 1 to 128 blocks */
     RIDGELADLE_RECORD = 2960,    /* bytes of a device record */
     RIDGELADLE_CONNECTION = 32,  /* bytes of a connection */
+    RIDGELADLE_READINGS = 134,   /* bytes of the host's readings */
     RIDGELADLE_REPLY = 4096,     /* the least length of a reply buffer; no reply is longer */
     RIDGELADLE_DIGEST = 20
 };
@@ -37,7 +38,8 @@ enum {
     RIDGELADLE_DEVICE_BAD = 3, /* device record breaks an ACL rule */
     RIDGELADLE_CLOSED = 4,     /* this connection was closed */
     RIDGELADLE_MORE = 5,       /* the input, possibly empty, is a proper start of a frame: call again with more behind it */
-    RIDGELADLE_KEY_BAD = 6     /* format only: key not 1 to 64 bytes */
+    RIDGELADLE_KEY_BAD = 6,    /* format only: key not 1 to 64 bytes */
+    RIDGELADLE_READINGS_BAD = 7 /* readings not 134 bytes, over four temperatures or two utilizations, or a name not 1 to 16 bytes */
 };
 
 /* Numbers in lent bytes are big-endian, identities, connection numbers and sequences 64-bit two's complement.
@@ -50,7 +52,14 @@ enum {
    8-71 value. What is not used is not looked at; it is written as zero, but SETUP writes bytes 0-7 alone.
 
    Connection: 0-7 number, 8 protected, 9 closed, 10 seen: a sequence was accepted (each: not zero is yes), 11-15 not used,
-   16-23 last accepted sequence, 24-31 not used. What is not used is not looked at. */
+   16-23 last accepted sequence, 24-31 not used. What is not used is not looked at.
+
+   Readings, what the host measured for GETLOG: 0 number of temperatures (0 to 4), 1 number of utilizations (0 to 2), then six reading
+   places of 22 bytes: four for temperatures, from byte 2, and two for utilizations, from byte 90.
+   Reading place: 0 unit of a temperature (0 Celsius, not zero Fahrenheit; of a utilization not looked at), 1 name length (1 to 16),
+   2-17 name (any bytes), 18-21 value, an IEEE 754 binary32. Places past a number, and bytes of a name past its length, are not looked at.
+   Temperatures are sent as Celsius. A value that is not finite as it would be sent is left out of the log, and its name is sent.
+   134 zero bytes lend no reading. */
 
 /* Makes the device record and a store of blank blocks: identity 1 has the key and every permission, the cluster version is 0.
    store_len is the store's length, key_len the key's. Old contents do not matter.
@@ -61,14 +70,14 @@ uint32_t ridgeladle_format(uint8_t *store, size_t store_len, uint8_t *record, co
    as 0 or 1, what is not used as zero. */
 void ridgeladle_connect(uint8_t *connection, int64_t number, uint8_t protected_);
 
-/* Answers the input on a connection.
+/* Answers the input on a connection. The readings are only read.
    0 answered: the reply stands in the first counts[1] bytes of out, and the rest of out is as it was; the first counts[0] bytes of the
    input are taken: pass what follows them with the next call. Of store and record what the request changes is written. Of the connection
    only what changes is written: byte 9 becomes 1 on closing; byte 10 becomes 1 and 16-23 the sequence when one is accepted; no other
    byte of it ever changes. A closing reply is answered with 0 too: send it, then close.
-   Else refusal 1 to 5. */
-uint32_t ridgeladle_answer(uint8_t *store, size_t store_len, uint8_t *record, uint8_t *connection, const uint8_t *input, size_t input_len,
-                           uint8_t *out, size_t out_len, uint64_t *counts /* [2]: taken, written */);
+   Else refusal 1 to 5 or 7; 7 is judged on every call that would be answered, not for GETLOG alone. */
+uint32_t ridgeladle_answer(uint8_t *store, size_t store_len, uint8_t *record, uint8_t *connection, const uint8_t *readings, size_t readings_len,
+                           const uint8_t *input, size_t input_len, uint8_t *out, size_t out_len, uint64_t *counts /* [2]: taken, written */);
 
 /* Local read, for the box's own display: where the value under a key lies.
    0 found: part[0] is the value's offset in the store, part[1] its length. Or 1 not found, also for a key that is not 1 to 64 bytes.

@@ -1,5 +1,5 @@
 #!/usr/bin/env python3
-"""The lines that examples/box.c must print, from document 01 alone: W1, W2 and "Replies", with Python's hmac."""
+"""The lines that examples/box.c must print, from document 01 and change request 1 alone: W1, W2 and "Replies", with Python's hmac."""
 import hashlib
 import hmac
 
@@ -7,6 +7,12 @@ KEY = b"ridgeladle"
 W1 = bytes.fromhex("0A 06 18 01 30 02 38 1D 1A 02 08 01")  # the reply's command, as document 01 prints it
 W2 = bytes.fromhex("46 00 00 00 0C 00 00 00 00 20 03 3A 08 0A 02 18 01 1A 02 08 14")  # the closing reply with code 20, likewise
 COMMAND = bytes.fromhex("0A 06 18 01 20 02 38 1E")  # header: connection 1, sequence 2, type 30
+GET_LOG = bytes.fromhex("0A 06 18 01 20 03 38 18 12 08 32 06 08 00 08 01 08 02")  # sequence 3, type 24; body 6 with types 0, 1, 2
+# The reply's command: header; body 6 with EN0 at 0.25, HDA at 36.5, board at 98.6 Fahrenheit, which is 37 (98.6 in f32 less 32 is 66.6, five times
+# that 333 when rounded), and a capacity of 4,096 bytes with nothing used; status.
+LOG = bytes.fromhex("0A 06 18 01 30 03 38 17" "12 32 32 30"
+                    "12 0A 0A 03 45 4E 30 15 00 00 80 3E" "1A 0A 0A 03 48 44 41 15 00 00 12 42" "1A 0C 0A 05 62 6F 61 72 64 15 00 00 14 42"
+                    "22 08 20 80 20 2D 00 00 00 00" "1A 02 08 01")
 
 
 def framed(command):
@@ -42,8 +48,11 @@ def main():
     answered(len(request), reply)
     connection(0, 1, 2)
     answered(len(request), again)
+    request = framed(GET_LOG)
+    print("answer 7")
+    answered(len(request), framed(LOG))
     answered(len(request), W2)
-    connection(1, 1, 2)
+    connection(1, 1, 3)
     print("answer 4")
     print("find 1")
 

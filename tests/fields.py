@@ -6,13 +6,13 @@
   tests/fields.py --hex NAME   prints the bytes of a message of messages.txt
 
 Each line of fields_main's stdin is a kind, as two hex digits, and the bytes of a message of that kind, in hex. Each line of its stdout is what
-the message says: n=VALUE; a number, n:HEX; bytes, n{..} a message, or 'refused'. writers_main writes the messages of the list WRITTEN, in hex.
+the message says: n=VALUE; a number, n:HEX; bytes, n#HEX; a float, n{..} a message, or 'refused'. writers_main writes the messages of the list WRITTEN, in hex.
 
 The bytes come from `protoc --encode` for the messages of messages.txt, whose lines are worked out here from their text and from kinetic.proto;
 and from the list RAW below, whose lines are worked out by hand. Nothing here is taken from the program. protoc is Debian's
 protobuf-compiler; if it is missing it is installed by that name.
 """
-import ast, os, re, subprocess, sys
+import ast, os, re, struct, subprocess, sys
 
 HERE = os.path.dirname(os.path.abspath(__file__))
 CRATES = os.path.join(HERE, "..", "crates")
@@ -21,12 +21,15 @@ KINDS = ["Message", "HmacAuth", "Command", "Header", "Body", "KeyValue", "Range"
          "ReplyCommand", "ReplyBody", "ReplyRange", "Status"]
 
 # Document 01, "Frame and fields", of the messages of kinetic.proto.
-REFUSED = {("Header", 14), ("Body", 4), ("Body", 6), ("Body", 8), ("Body", 9), ("Body", 10), ("Range", 8), ("Setup", 5)}
+REFUSED = {("Header", 14), ("Body", 4), ("Body", 8), ("Body", 9), ("Body", 10), ("Range", 8), ("Setup", 5)}
 OPAQUE = {("Message", 6), ("Command", 3)}
 STRICT_UNLISTED = {("Security", 3), ("Security", 4), ("Security", 5), ("Security", 6), ("ACL", 5)}
 SKIPPED = {("Status", 2), ("Status", 3)}
+# Document 02, CR 1: "a request's GetLog lists field 1 only"; of a reply's, "the fields of document 003 that a built reply sends are listed"
+GETLOG = {False: {"GetLog": {1}},
+          True: {"GetLog": {2, 3, 4, 8}, "Utilization": {1, 2}, "Temperature": {1, 2}, "Capacity": {4, 5}, "Limits": {1, 2, 3, 4, 8, 9, 10}}}
 NAMED = {("Header", 12): {1, 3, 5, 7, 9}, ("KeyValue", 6): {1, 2, 3, 4, 5, 6}, ("KeyValue", 9): {1, 2, 3},
-         ("Status", 1): {1, 2, 3, 4, 6, 7, 8, 14, 15, 16, 20}}
+         ("GetLog", 1): {0, 1, 2, 3, 4, 5, 6, 7}, ("Status", 1): {1, 2, 3, 4, 6, 7, 8, 14, 15, 16, 20}}
 # "For reading replies, Range 8 is a repeated b and Status 1 is e code"
 AS_REPLY = {("Range", 8), ("Command", 3)}
 
@@ -75,7 +78,7 @@ def says(message, said, reply):
         place = (message, number)
         if place in STRICT_UNLISTED or (place in REFUSED and not (reply and place in AS_REPLY)):
             raise Refused
-        if place in SKIPPED:
+        if place in SKIPPED or number not in GETLOG[reply].get(message, {number}):
             continue
         if place in OPAQUE and not (reply and place in AS_REPLY):
             shown.append((number, f"{number}:;"))
@@ -83,6 +86,8 @@ def says(message, said, reply):
             shown.append((number, f"{number}{{{says(kind, value, reply)}}}"))
         elif kind in ("bytes", "string"):
             shown.append((number, f"{number}:{ast.literal_eval('b' + value).hex()};"))
+        elif kind == "float":
+            shown.append((number, f"{number}#{struct.pack('<f', float(value)).hex()};"))
         else:
             n = int(value == "true") if kind == "bool" else ENUMS[kind][value] if kind in ENUMS else int(value)
             if place in NAMED and n not in NAMED[place]:
@@ -180,6 +185,27 @@ RAW = [
     ("Command", "12" "0a" "3a06" "1204" "2202" "1800" "7801", "2{7{2{4{3=0;}}}}"),
     # a packed permission list
     ("Scope", "1a020001", "refused"),
+    # GetLog: types 1, 0 and 1 among unlisted fields of each wire type (2, 7, 9, 15, 15), none, twice; a type of 8, of -1; packed types, types as
+    # four and as eight bytes
+    ("Body", "321d" "0801" "12020801" "0800" "3a0178" "4d01020304" "790102030405060708" "7801" "0801", "6{1=1;1=0;1=1;}"),
+    ("Body", "3200", "6{}"),
+    ("Body", "3200" "3200", "refused"),
+    ("Body", "3204" "0801" "0808", "refused"),
+    ("Body", "320b" "08ffffffffffffffffff01", "refused"),
+    ("Body", "3203" "0a0101", "refused"),
+    ("Body", "3205" "0d01000000", "refused"),
+    ("Body", "3209" "090100000000000000", "refused"),
+    # a reply's GetLog: a temperature of 25.5, a NaN with its bits as they came, a utilisation with no value; a float as a number, as eight
+    # bytes, as bytes, cut, and twice; a name as a float
+    ("ReplyBody", "320c" "1a0a" "0a03484441" "150000cc41", "6{3{1:484441;2#0000cc41;}}"),
+    ("ReplyBody", "3207" "1a05" "15010080ff", "6{3{2#010080ff;}}"),
+    ("ReplyBody", "3207" "1205" "0a03484441", "6{2{1:484441;}}"),
+    ("ReplyBody", "3204" "1a02" "1001", "refused"),
+    ("ReplyBody", "320b" "1a09" "110102030405060708", "refused"),
+    ("ReplyBody", "3208" "1a06" "120401020304", "refused"),
+    ("ReplyBody", "3206" "1a04" "15010203", "refused"),
+    ("ReplyBody", "320c" "1a0a" "1501020304" "1501020304", "refused"),
+    ("ReplyBody", "3207" "1a05" "0d01020304", "refused"),
 ]
 
 

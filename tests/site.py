@@ -42,11 +42,19 @@ def code_of(reply):
 
 
 def contents(reply):
-    """The key and version of a keyValue, the keys of a range and the value part of a reply."""
+    """The key and version of a keyValue, the keys of a range, the parts of a log and the value part of a reply."""
     body = command_of(reply).get(2, {})
     pair, keys = body.get(1, {}), "".join(" " + shown(key) for key in body.get(2, {}).get(8, []))
     return (under("key", pair.get(3, b"")) + under("version", pair.get(4, b"")) + (f"{'':26}keys{keys}\n" if keys else "")
-            + under("value", model.framed(reply)[2]))
+            + log_lines(body.get(6, {})) + under("value", model.framed(reply)[2]))
+
+
+def log_lines(log):
+    """A line for each part of a log: floats as their bits in hex, where they are sent; numbers in decimal."""
+    lines = [("utilization", shown(u[1]), u.get(2)) for u in log.get(2, [])] + [("temperature", shown(t[1]), t.get(2)) for t in log.get(3, [])]
+    lines += [("capacity", str(log[4][4]), log[4][5])] if 4 in log else []
+    lines += [("limits", " ".join(str(n) for _, n in sorted(log[8].items())), None)] if 8 in log else []
+    return "".join(f"{'':26}{name} {words}" + ("" if bits is None else f" {bits:08x}") + "\n" for name, words, bits in lines)
 
 
 def shortly(reply):
@@ -65,6 +73,7 @@ class Day:
     def __init__(self):
         self.events, self.written = [], []
         self.box, self.slots, self.room = model.Box(b"", bytes(model.RECORD)), {}, 4096
+        self.readings = bytes(model.READINGS)
         self.rows, self.time = 0, ""
 
     def title(self, text):
@@ -88,7 +97,7 @@ class Day:
         self.row(f"connect {slot} {number} {int(protected)}", who, f"connection {number}, {'protected' if protected else 'plain'}", "connected")
 
     def send(self, slot, who, asked, data):
-        got = model.answer(self.box, self.slots[slot], data, self.room)
+        got = model.answer(self.box, self.slots[slot], self.readings, data, self.room)
         counts = f"{got.taken:7} {len(got.reply):7} {entries(self.box.store):7}"
         if got.refusal:
             answer, reply = f"refusal {got.refusal} {NAMES[got.refusal]}", ""
@@ -106,6 +115,11 @@ class Day:
     def lend(self, room, asked):
         self.room = room
         self.row(f"room {room}", "host", asked, "done")
+
+    def measured(self, readings, asked):
+        """From now on these readings are lent."""
+        self.readings = readings
+        self.row(f"measured {readings.hex()}", "host", asked, "done")
 
     def overwrite(self, what, place, byte, asked):
         changed = bytearray(self.box.store if what == "block" else self.box.record)
@@ -153,6 +167,9 @@ class Client:
     def look(self, kind, key, asked=None, old=None, metadata=None, force=None):
         part = message((3, key), (4, old), (7, metadata), (8, force))
         return self.ask(kind, message((1, part)), asked or shown(key))
+
+    def log(self, *types, asked):
+        return self.ask("GETLOG", message((6, message(*((1, kind) for kind in types)))), asked)
 
     def range(self, start, end, asked, first=1, last=1, most=None, reverse=None):
         return self.ask("GETKEYRANGE", message((2, message((1, start), (2, end), (3, first), (4, last), (5, most), (6, reverse)))), asked)
@@ -302,8 +319,34 @@ def newer_firmware(day, timers, tablet):
     two.send("PUT t2/082000, an unknown field that is cut", two.framed(two.command("PUT", message((1, message((3, b"t2/082000")))), field(200, b"ab")[:-1])))
     two.send("PUT t2/082000 with a batchID", two.framed(two.command("PUT", message((1, message((3, b"t2/082000")))), extra_header=field(14, 3))))
     two.send("PUT t2/082000, its key twice", two.framed(two.command("PUT", message((1, message((3, b"t2/082000"), (3, b"t2/082000")))))))
-    two.send("messageType 24, GETLOG", two.framed(two.command(24)))
+    two.send("messageType 28, PEER2PEERPUSH", two.framed(two.command(28)))
     two.send("a command of no bytes", two.framed(b""))
+
+
+# What the host measures: four temperatures, two of them in Fahrenheit, the last of a sensor that is silent; two utilizations.
+LENT = model.Readings((model.Reading(b"HDA", 0x42126666), model.Reading(b"board", 0x42c53333, 1), model.Reading(b"roof", 0x42e08000, 1),
+                       model.Reading(b"spare", 0x7fc00000)), (model.Reading(b"EN0", 0x3e800000), model.Reading(b"EN1", 0)))
+
+
+def the_log(day, office, timers, tablet):
+    day.title("The office asks for the log")
+    day.time = "08:30"
+    office.log(1, 0, asked="before anything was measured")
+    lent = model.readings_bytes(LENT)
+    day.measured(lent, "four temperatures, two utilizations")
+    got = office.log(0, 1, 2, 6, asked="every type that is built")
+    log = command_of(got.reply)[2][6]
+    # 36.6 Celsius as it is, 98.6 Fahrenheit as 37, 112.25 as 44.58333.. rounded, what is no number with its name alone; 10 of 128 blocks
+    assert [(t[1], t.get(2)) for t in log[3]] == [(b"HDA", 0x42126666), (b"board", 0x42140000), (b"roof", 0x42325555), (b"spare", None)]
+    assert log[4] == {4: 65536, 5: 0x3da00000}
+    office.log(6, 2, 6, 2, asked="limits and capacity, each asked twice")
+    assert code_of(timers[0].log(1, asked="temperatures, without the permission").reply) == 3
+    assert code_of(office.log(3, asked="the configuration").reply) == 16
+    assert code_of(office.log(7, asked="a device's own").reply) == 7
+    assert code_of(office.log(7, 3, asked="both of these").reply) == 16
+    assert code_of(office.log(asked="no type").reply) == 16
+    assert code_of(office.log(1, 8, asked="a type that has no name").reply) == 16
+    tablet.look("GET", b"t1/080000", "t1/080000 beside the log")
 
 
 def limits(day, office, plain):
@@ -335,7 +378,7 @@ def cluster(day, office, timers):
     one.cluster = office.cluster = None
 
 
-def full(day, timers, tablet):
+def full(day, office, timers, tablet):
     day.title("The store fills up")
     n = 0
     while entries(day.box.store) < 128:
@@ -353,6 +396,7 @@ def full(day, timers, tablet):
     tablet.range(b"t1/", b"t1/~", "t1/ to t1/~")
     tablet.look("GET", b"t1/103000")
     day.local(b"t1/103000", "t1/103000")
+    assert command_of(office.log(2, asked="the capacity of a full store").reply)[2][6][4] == {4: 65536, 5: 0x3f800000}
 
 
 def bad_state(day, tablet):
@@ -371,6 +415,14 @@ def bad_state(day, tablet):
     day.lend(4095, "a reply buffer of 4,095 bytes")
     tablet.look("GET", b"t1/103000")
     day.lend(4096, "a reply buffer of 4,096 bytes")
+    tablet.look("GET", b"t1/103000")
+    lent = day.readings
+    day.measured(b"\5" + lent[1:], "five temperatures")
+    assert tablet.look("GET", b"t1/103000").refusal == 7
+    half = tablet.framed(tablet.command("NOOP"))
+    assert tablet.send("the first 40 bytes of a NOOP", half[:40]).refusal == 5
+    assert tablet.send("the whole of it", half).refusal == 7
+    day.measured(lent, "four temperatures")
     tablet.look("GET", b"t1/103000")
 
 
@@ -394,9 +446,10 @@ def made():
     reading_back(day, tablet)
     wrong_signature(day, timers)
     newer_firmware(day, timers, tablet)
+    the_log(day, office, timers, tablet)
     limits(day, office, plain)
     cluster(day, office, timers)
-    full(day, timers, tablet)
+    full(day, office, timers, tablet)
     bad_state(day, tablet)
     evening(day, office, timers)
     return {"stdin": "".join(day.events), "stdout": "".join(day.written)}

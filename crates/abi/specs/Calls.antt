@@ -26,6 +26,6 @@ leaves store device connection out counts (refused n) = left n store device conn
 leaves store device connection out counts (answered bytes s taken) =
     left 0 (s .store) (s .device) (becomes connection (s .connection)) (bytes ++ drop (length bytes) out) (taken ∷ length bytes ∷ [])
 
-unfoldable pub answerCall : List ℕ → List ℕ → List ℕ → List ℕ → List ℕ → List ℕ → Left
-answerCall store device connection input out counts =
-    leaves store device connection out counts (answers (lent store device (connectionAt connection)) (length out) input)
+unfoldable pub answerCall : List ℕ → List ℕ → List ℕ → List ℕ → List ℕ → List ℕ → List ℕ → Left
+answerCall store device connection readings input out counts =
+    leaves store device connection out counts (answers (lent store device readings (connectionAt connection)) (length out) input)

@@ -29,20 +29,21 @@ pub extern "C" fn ridgeladle_connect(connection: &mut Bytes, number: i64, protec
     host_calls::connect(connection, number, protected);
 }
 
-// 0 answered, and the counts are those of the input taken and of the reply; or refusal 1 to 5, and nothing is written.
+// 0 answered, and the counts are those of the input taken and of the reply; or refusal 1 to 5 or 7, and nothing is written.
 #[no_mangle]
 pub extern "C" fn ridgeladle_answer(
     store: &mut [u8],
     device: &mut Record,
     connection: &mut Bytes,
+    readings: &[u8],
     input: &[u8],
     out: &mut [u8],
     counts: &mut [u64; 2],
 ) -> u32
-    ensures { λ r. ⌜ left r (now (store .exit)) (now (device .exit)) (now (connection .exit)) (now (out .exit)) (now (counts .exit)) ≡ answerCall (now (store .entry)) (now (device .entry)) (now (connection .entry)) (now (input .entry)) (now (out .entry)) (now (counts .entry)) ⌝ }
+    ensures { λ r. ⌜ left r (now (store .exit)) (now (device .exit)) (now (connection .exit)) (now (out .exit)) (now (counts .exit)) ≡ answerCall (now (store .entry)) (now (device .entry)) (now (connection .entry)) (now (readings .entry)) (now (input .entry)) (now (out .entry)) (now (counts .entry)) ⌝ }
 {
     let c = connection_bytes::connection_at(connection);
-    let r = device::answer(store, device, c, input, out);
+    let r = device::answer(store, device, readings, c, input, out);
     host_calls::note(connection, counts, r)
 }
 

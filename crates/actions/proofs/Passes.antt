@@ -13,18 +13,19 @@ use Rattle.access.specs.Table.{both}
 use Rattle.lookups.specs.Views.{numView}
 use Rattle.store.specs.Entries.{nextIn, previousIn}
 use Rattle.protocol.specs.declared.Operation.{Operation}
-use Rattle.protocol.specs.declared.Operation.the-variants.{Noop, Get, GetVersion, GetNext, GetPrevious, GetKeyRange, Put, Delete, FlushAllData, Setup, Security}
+use Rattle.protocol.specs.declared.Operation.the-variants.{Noop, Get, GetVersion, GetNext, GetPrevious, GetKeyRange, Put, Delete, FlushAllData, Setup, GetLog, Security}
 use Rattle.protocol.specs.State.{State, entries}
 use Rattle.protocol.specs.Command as command
 use Rattle.protocol.specs.Command.{orElse}
-use Rattle.protocol.specs.Judge.{algorithmsGood, broken, changeGood, deleteBy, entryOf, entryThere, fault, isEmpty, keyValueGood, keyValueIn, keysOf, noKeyValue, noRange, present, put, range, rangeGood, rangeIn, secure, securityGood, setUp, shown, step10, succeeds, versionShown}
+use Rattle.protocol.specs.Judge.{algorithmsGood, broken, changeGood, deleteBy, entryOf, entryThere, fault, isEmpty, keyValueGood, keyValueIn, keysOf, logged, noKeyValue, noRange, present, put, range, rangeGood, rangeIn, secure, securityGood, setUp, shown, step10, succeeds, typesGood, versionShown}
 use Rattle.body_rules.specs.Passed.{put-passed, range-passed}
 use Rattle.requests.specs.declared.Body.{Body}
 use Rattle.requests.specs.Views.{bodyView, keyValueView, rangeView}
 use Rattle.scopes.specs.Stands.{aclsIn}
+use Rattle.log_types.specs.Types.{typesIn}
 use Rattle.sending.specs.declared.Address.{Address}
 use Rattle.sending.specs.Sent.{Sent, replied}
-use Rattle.showing.specs.Results.{sent-as}
+use Rattle.sending.specs.SentLaws.{sent-as}
 
 never : {A : Type 0} → false ≡ true → A
 never e = absurd (let z : _≡_ {A = ℕ} 0 1 = cc in omega arith)
@@ -51,6 +52,7 @@ wholeView s b =
       keyValue = some (keyValueView s (b .entry));
       range = some (rangeView s (b .range));
       setup = some (numView (b .cluster));
+      getLog = some (typesIn s (b .log));
       security = some (aclsIn s (b .security));
     }
 
@@ -95,6 +97,8 @@ module _ (s : List ℕ) (b : Body) (v : List ℕ) where
   step-whole t GetKeyRange e = ap (λ (g : command.Range). succeeds t (range (keysOf g (entries t))) []) (ranged e)
   step-whole t Setup e =
       ap (setUp t) (there none isSome refl (b .changed) (numView (b .cluster)) (beside (isEmpty v) (isSome (bodyView s b .setup)) e))
+  step-whole t GetLog e =
+      ap (logged t) (there [] (present typesGood) refl (b .log .has) (typesIn s (b .log)) (beside (isEmpty v) (present typesGood (bodyView s b .getLog)) e))
   step-whole t Security e =
       ap (secure t) (there [] (present securityGood) refl (b .security .has) (aclsIn s (b .security)) (tabled e))
 

@@ -14,7 +14,7 @@ use Rattle.operations.specs.Given.{Changed}
 use Rattle.security.specs.Security.{Makes}
 use Rattle.sending.specs.declared.Address.{Address}
 use Rattle.sending.specs.Sent.{Sent, replied}
-use Rattle.showing.specs.Results.{sent-as}
+use Rattle.sending.specs.SentLaws.{sent-as}
 
 module _ (a : Address) (by : List ℕ) {n : ℕ} {out out' : List ℕ} where
   -- ---- PUT and DELETE: a code that is not 1 leaves the store

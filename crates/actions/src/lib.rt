@@ -1,5 +1,6 @@
 // Step 10: each operation done, and its reply written.
 use access::Record;
+use logs::get_log;
 use lookups::parts::Num;
 use lookups::parts::Part;
 use protocol::Operation;
@@ -21,6 +22,7 @@ ghost use Prim.Native.Nat.{ℕ, _≤_};
 ghost use lib.Dec.{eqb};
 ghost use lib.ListN.{length};
 ghost use Rattle.store.specs.Store.{Good};
+ghost use Rattle.readings.specs.Lent.{readingsGood};
 ghost use Rattle.wire.specs.Reader.{choose};
 ghost use Rattle.lookups.specs.Views.{numView};
 ghost use Rattle.protocol.specs.State.{Connection, State, lent, withStore, withDevice};
@@ -115,6 +117,7 @@ pub fn perform(
     o: Operation,
     store: &mut [u8],
     device: &mut Record,
+    readings: &[u8],
     s: &[u8],
     b: Body,
     value: &[u8],
@@ -122,8 +125,8 @@ pub fn perform(
     by: &[u8],
     a: Address,
 ) -> usize
-    requires { ⌜ (4096 ≤ length (now out)) × (length (now by) ≤ 64) × Good (now store) × BodyLies (now s) b × (fault o (bodyView (now s) b) (now value) ≡ 0) ⌝ }
-    ensures { λ r. ⌜ ((c : Connection) → Sent (replied a (now (by .entry)) (step10 (lent (now (store .entry)) (now (device .entry)) c) o (bodyView (now (s .entry)) b) (now (value .entry)))) r (now (out .entry)) (now (out .exit)) (lent (now (store .exit)) (now (device .exit)) c)) ⌝ }
+    requires { ⌜ (4096 ≤ length (now out)) × (length (now by) ≤ 64) × Good (now store) × BodyLies (now s) b × (fault o (bodyView (now s) b) (now value) ≡ 0) × (readingsGood (now readings) ≡ true) ⌝ }
+    ensures { λ r. ⌜ ((c : Connection) → Sent (replied a (now (by .entry)) (step10 (lent (now (store .entry)) (now (device .entry)) (now (readings .entry)) c) o (bodyView (now (s .entry)) b) (now (value .entry)))) r (now (out .entry)) (now (out .exit)) (lent (now (store .exit)) (now (device .exit)) (now (readings .entry)) c)) ⌝ }
 {
     match o {
         Operation::Noop => status(out, by, a, 1),
@@ -136,6 +139,7 @@ pub fn perform(
         Operation::Put => put(out, by, a, store, s, b.entry, value),
         Operation::Delete => delete(out, by, a, store, s, b.entry),
         Operation::Setup => setup(out, by, a, device, b.cluster),
+        Operation::GetLog => get_log(out, by, a, store, readings, s, b.log),
         Operation::Security => secure(out, by, a, device, s, b.security),
     }
 }

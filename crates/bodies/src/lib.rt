@@ -4,6 +4,8 @@ use body_rules::fault;
 use body_rules::key_value_good;
 use body_rules::range_good;
 use hmac_algorithms::algorithms_good;
+use log_types::log_types;
+use log_types::types_good;
 use lookups::parts::Part;
 use protocol::Operation;
 use requests::Body;
@@ -17,10 +19,11 @@ ghost use mathlib.Core.List.{List};
 ghost use Prim.Native.Nat.{ℕ};
 ghost use lib.ListN.{length};
 ghost use Rattle.tree.specs.Tree.{guard};
-ghost use Rattle.protocol.specs.Judge.{fault, present, keyValueGood, changeGood, rangeGood};
+ghost use Rattle.protocol.specs.Judge.{broken, fault, present, keyValueGood, changeGood, rangeGood, typesGood};
 ghost use Rattle.body_rules.specs.Given.{securityFault};
 ghost use Rattle.requests.specs.Views.{BodyLies, KeyValueLies, RangeLies, bodyView, keyValueView, rangeView};
 ghost use Rattle.scopes.specs.Stands.{StandsSecurity, aclsIn};
+ghost use Rattle.log_types.specs.Types.{StandsLog, typesIn};
 
 // Whether the keyValue is there and its lengths are right.
 fn key_value_right(keyed: bool, k: KeyValue) -> bool
@@ -51,6 +54,29 @@ fn range_right(ranged: bool, g: Range) -> bool
     }
     let most = number_or(g.limit, 32);
     range_good(g.start.has, g.start.len, g.end.has, g.end.len, most)
+}
+
+// Whether the getLog is there with a type, and every type may be asked for.
+fn log_right(s: &[u8], p: Part) -> bool
+    requires { ⌜ StandsLog (now s) p ⌝ }
+    ensures { λ r. ⌜ r ≡ present typesGood (guard (p .has) (typesIn (now (s .entry)) p)) ⌝ }
+{
+    let has = p.has;
+    if !has {
+        return false;
+    }
+    types_good(log_types(s, p))
+}
+
+// What is wrong with the getLog where the operation uses it; else 0.
+fn log_code(o: Operation, s: &[u8], p: Part) -> u64
+    requires { ⌜ StandsLog (now s) p ⌝ }
+    ensures { λ r. ⌜ (o ≡ Operation.GetLog → r ≡ broken (present typesGood (guard (p .has) (typesIn (now (s .entry)) p)))) ⌝ }
+{
+    match o {
+        Operation::GetLog => broken(log_right(s, p)),
+        _ => 0,
+    }
 }
 
 // What is wrong with the security part, or 0: the ACL rules first, then the algorithms. The table that is made of it is thrown away.
@@ -92,6 +118,7 @@ pub fn body_fault(o: Operation, s: &[u8], b: Body, value: usize) -> u64
     let change = broken(change_right(b.keyed, b.entry));
     let range = broken(range_right(b.ranged, b.range));
     let setup = broken(b.changed);
+    let log = log_code(o, s, b.log);
     let security = security_code(o, s, b.security);
-    fault(o, value, pair, change, range, setup, security)
+    fault(o, value, pair, change, range, setup, log, security)
 }

@@ -7,9 +7,9 @@ use lib.ListN.{length}
 use Rattle.wire.specs.Reader.{choose}
 use Rattle.tree.specs.Tree.{mapO, isSome}
 use Rattle.protocol.specs.declared.Operation.{Operation}
-use Rattle.protocol.specs.declared.Operation.the-variants.{Noop, Get, GetVersion, GetNext, GetPrevious, GetKeyRange, Put, Delete, FlushAllData, Setup, Security}
+use Rattle.protocol.specs.declared.Operation.the-variants.{Noop, Get, GetVersion, GetNext, GetPrevious, GetKeyRange, Put, Delete, FlushAllData, Setup, GetLog, Security}
 use Rattle.protocol.specs.Command.{KeyValue, Range, Acl, Body}
-use Rattle.protocol.specs.Judge.{broken, present, keyValueGood, changeGood, rangeGood, securityGood, algorithmsGood}
+use Rattle.protocol.specs.Judge.{broken, present, keyValueGood, changeGood, rangeGood, typesGood, securityGood, algorithmsGood}
 
 -- "value part at most 384 on PUT and empty elsewhere"
 abbrev pub mostValue : Operation → ℕ
@@ -23,33 +23,36 @@ mostValue Put = 384
 mostValue Delete = 0
 mostValue GetKeyRange = 0
 mostValue Setup = 0
+mostValue GetLog = 0
 mostValue Security = 0
 
 -- the code of the part that the operation uses
-abbrev pub partFault : Operation → ℕ → ℕ → ℕ → ℕ → ℕ → ℕ
-partFault Noop pair change range setup security = 0
-partFault FlushAllData pair change range setup security = 0
-partFault Get pair change range setup security = pair
-partFault GetVersion pair change range setup security = pair
-partFault GetNext pair change range setup security = pair
-partFault GetPrevious pair change range setup security = pair
-partFault Put pair change range setup security = change
-partFault Delete pair change range setup security = change
-partFault GetKeyRange pair change range setup security = range
-partFault Setup pair change range setup security = setup
-partFault Security pair change range setup security = security
+abbrev pub partFault : Operation → ℕ → ℕ → ℕ → ℕ → ℕ → ℕ → ℕ
+partFault Noop pair change range setup log security = 0
+partFault FlushAllData pair change range setup log security = 0
+partFault Get pair change range setup log security = pair
+partFault GetVersion pair change range setup log security = pair
+partFault GetNext pair change range setup log security = pair
+partFault GetPrevious pair change range setup log security = pair
+partFault Put pair change range setup log security = change
+partFault Delete pair change range setup log security = change
+partFault GetKeyRange pair change range setup log security = range
+partFault Setup pair change range setup log security = setup
+partFault GetLog pair change range setup log security = log
+partFault Security pair change range setup log security = security
 
 -- the code of a security part: its rules, "then an hmacAlgorithm that is present and not 1"
 abbrev pub securityFault : Option (List Acl) → ℕ
 securityFault o = choose (present securityGood o) (choose (present algorithmsGood o) 0 15) 16
 
--- the length of the value part, and the code of each part; that of a security part only where it is used
-pub record Checked (o : Operation) (b : Body) (v : List ℕ) (n p c r s x : ℕ) : Type 0 where
+-- the length of the value part, and the code of each part; that of a getLog or a security part only where it is used
+pub record Checked (o : Operation) (b : Body) (v : List ℕ) (n p c r s l x : ℕ) : Type 0 where
   pub value : length v ≡ n
   pub pair : broken (present keyValueGood (b .keyValue)) ≡ p
   pub change : broken (present changeGood (b .keyValue)) ≡ c
   pub range : broken (present rangeGood (b .range)) ≡ r
   pub setup : broken (isSome (b .setup)) ≡ s
+  pub log : o ≡ GetLog → broken (present typesGood (b .getLog)) ≡ l
   pub security : o ≡ Security → securityFault (b .security) ≡ x
 
 -- the lengths of a keyValue's parts

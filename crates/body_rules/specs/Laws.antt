@@ -12,9 +12,9 @@ use Rattle.wire.specs.Reader.{choose}
 use Rattle.tree.specs.Tree.{guard, mapO, isSome}
 use Rattle.access.specs.Table.{both, within}
 use Rattle.protocol.specs.declared.Operation.{Operation}
-use Rattle.protocol.specs.declared.Operation.the-variants.{Noop, Get, GetVersion, GetNext, GetPrevious, GetKeyRange, Put, Delete, FlushAllData, Setup, Security}
+use Rattle.protocol.specs.declared.Operation.the-variants.{Noop, Get, GetVersion, GetNext, GetPrevious, GetKeyRange, Put, Delete, FlushAllData, Setup, GetLog, Security}
 use Rattle.protocol.specs.Command.{KeyValue, Range, Body}
-use Rattle.protocol.specs.Judge.{isEmpty, broken, fault, present, keyValueGood, changeGood, rangeGood, securityGood, algorithmsGood}
+use Rattle.protocol.specs.Judge.{isEmpty, broken, fault, present, keyValueGood, changeGood, rangeGood, typesGood, securityGood, algorithmsGood}
 use Rattle.body_rules.specs.Given.{mostValue, partFault, Lengths, RangeLengths, Checked}
 
 -- the rule of a keyValue, of the lengths of its parts
@@ -70,7 +70,7 @@ either-fault false y n = refl
 beside : (v : List ℕ) (y : Bool) {n m : ℕ} → length v ≡ n → broken y ≡ m → broken (both (isEmpty v) y) ≡ choose (leb n 0) m 16
 beside v y l e = either-broken (isEmpty v) y ∙ ap₂ (λ (t : Bool) (m : ℕ). choose t m 16) (empty v l) e
 
-pub by-checked : (o : Operation) (b : Body) (v : List ℕ) {n p c r s x : ℕ} → Checked o b v n p c r s x → choose (leb n (mostValue o)) (partFault o p c r s x) 16 ≡ fault o b v
+pub by-checked : (o : Operation) (b : Body) (v : List ℕ) {n p c r s l x : ℕ} → Checked o b v n p c r s l x → choose (leb n (mostValue o)) (partFault o p c r s l x) 16 ≡ fault o b v
 by-checked Noop b v k = sym (ap broken (empty v (k .value)))
 by-checked FlushAllData b v k = sym (ap broken (empty v (k .value)))
 by-checked Get b v k = sym (beside v (present keyValueGood (b .keyValue)) (k .value) (k .pair))
@@ -82,6 +82,7 @@ by-checked Put b v k =
 by-checked Delete b v k = sym (beside v (present changeGood (b .keyValue)) (k .value) (k .change))
 by-checked GetKeyRange b v k = sym (beside v (present rangeGood (b .range)) (k .value) (k .range))
 by-checked Setup b v k = sym (beside v (isSome (b .setup)) (k .value) (k .setup))
+by-checked GetLog b v k = sym (beside v (present typesGood (b .getLog)) (k .value) (k .log refl))
 by-checked Security b v k =
     sym
     (either-fault (isEmpty v) (present securityGood (b .security)) (choose (present algorithmsGood (b .security)) 0 15)

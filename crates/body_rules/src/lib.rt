@@ -71,13 +71,22 @@ fn most_value(o: Operation) -> usize
         Operation::Delete => 0,
         Operation::GetKeyRange => 0,
         Operation::Setup => 0,
+        Operation::GetLog => 0,
         Operation::Security => 0,
     }
 }
 
 // The code of the part that an operation uses.
-fn part_fault(o: Operation, pair: u64, change: u64, range: u64, setup: u64, security: u64) -> u64
-    ensures { λ r. ⌜ r ≡ partFault o pair change range setup security ⌝ }
+fn part_fault(
+    o: Operation,
+    pair: u64,
+    change: u64,
+    range: u64,
+    setup: u64,
+    log: u64,
+    security: u64,
+) -> u64
+    ensures { λ r. ⌜ r ≡ partFault o pair change range setup log security ⌝ }
 {
     match o {
         Operation::Noop => 0,
@@ -90,6 +99,7 @@ fn part_fault(o: Operation, pair: u64, change: u64, range: u64, setup: u64, secu
         Operation::Delete => change,
         Operation::GetKeyRange => range,
         Operation::Setup => setup,
+        Operation::GetLog => log,
         Operation::Security => security,
     }
 }
@@ -102,12 +112,13 @@ pub fn fault(
     change: u64,
     range: u64,
     setup: u64,
+    log: u64,
     security: u64,
 ) -> u64
-    ensures { λ r. ⌜ ((b : Body) (v : List ℕ) → Checked o b v value pair change range setup security → r ≡ fault o b v) ⌝ }
+    ensures { λ r. ⌜ ((b : Body) (v : List ℕ) → Checked o b v value pair change range setup log security → r ≡ fault o b v) ⌝ }
 {
     if most_value(o) < value {
         return 16;
     }
-    part_fault(o, pair, change, range, setup, security)
+    part_fault(o, pair, change, range, setup, log, security)
 }

@@ -1,4 +1,5 @@
--- What a call that answers does to the connection: it leaves it as it is, closes it, or accepts a sequence. And no refusal has the number 0.
+-- What a call that answers does to the connection: it leaves it as it is, closes it, or accepts a sequence. It leaves the readings as they are.
+-- And no refusal has the number 0.
 use Prim.Native.Nat.{ℕ, _+_, _<_}
 use native.Mathlib.Omega.{arith}
 use mathlib.Core.Path.{_≡_, refl, sym, ap, subst, _∙_}
@@ -14,11 +15,11 @@ use Rattle.access.specs.Table as access
 use Rattle.protocol.specs.State.{Connection, State, table, shut, heard}
 use Rattle.protocol.specs.Command.{Header, Command, commandOf}
 use Rattle.protocol.specs.Judge.{judge, aboveLast}
-use Rattle.protocol.specs.Accepted.{Passes, counted, not-counted}
+use Rattle.protocol.specs.Accepted.{Passes, counted, not-counted, readings-stay}
 use Rattle.protocol.specs.Frame.{Framing, more, closes, whole, frameOf}
 use Rattle.protocol.specs.Reading.{Reading, closing, undecodable, read}
 use Rattle.protocol.specs.Answer.{Reply, reply, Outcome, refused, answered, taking, reading, respond, serve, answer}
-use Rattle.protocol.specs.Box.{box, decide, judged, aclOf, answers}
+use Rattle.protocol.specs.Box.{box, close, decide, judged, aclOf, answers}
 
 pub data Follows (c : Connection) : Connection → Type 0 where
   stays : Follows c c
@@ -65,7 +66,7 @@ module _ (s : State) (c : Command) where
 -- ---- each way to a reply
 module _ (s : State) where
   abbrev After : State → Type 0
-  After t = Follows (s .connection) (t .connection)
+  After t = Follows (s .connection) (t .connection) × (t .readings ≡ s .readings)
 
   abbrev Left : Reply State → Type 0
   Left (reply bytes t) = After t
@@ -74,20 +75,20 @@ module _ (s : State) where
   judge-follows a c v = go (which s c (c .header) refl)
     where
       go : Which s c → After (judge s a c v .state)
-      go (inl (q, p)) = subst (λ d. Follows (s .connection) d) (sym (counted s a c v q p)) (Follows.accepted q)
-      go (inr n) = subst (λ t. After t) (sym (not-counted s a c v n)) Follows.stays
+      go (inl (q, p)) = (subst (λ d. Follows (s .connection) d) (sym (counted s a c v q p)) (Follows.accepted q), readings-stay s a c v)
+      go (inr n) = subst (λ t. After t) (sym (not-counted s a c v n)) (Follows.stays, refl)
 
   judged-follows : (i : ℕ) (key : List ℕ) (c : Command) (v : List ℕ) (o : Option access.Acl) → Left (judged s i key c v o)
-  judged-follows i key c v none = Follows.closed
+  judged-follows i key c v none = (Follows.closed, refl)
   judged-follows i key c v (some a) = judge-follows a c v
 
   respond-follows : (v : List ℕ) (r : Reading) → Left (respond box s v r)
   unfolding decide
-  respond-follows v (closing code) = Follows.closed
-  respond-follows v (undecodable i key) = Follows.stays
+  respond-follows v (closing code) = (Follows.closed, refl)
+  respond-follows v (undecodable i key) = (Follows.stays, refl)
   respond-follows v (read i key t) = judged-follows i key (commandOf t) v (aclOf s i)
 
-  -- a refusal has a number that is not 0; an answer leaves the connection as it is, closed, or with a sequence accepted
+  -- a refusal has a number that is not 0; an answer leaves the connection as it is, closed, or with a sequence accepted, and the readings as they are
   abbrev pub Leaves : Outcome State → Type 0
   Leaves (refused n) = 0 < n
   Leaves (answered bytes t taken) = After t
@@ -95,14 +96,16 @@ module _ (s : State) where
   taking-leaves : (n : ℕ) (r : Reply State) → Left r → Leaves (taking n r)
   taking-leaves n (reply bytes t) h = h
 
-  serve-leaves : (n : ℕ) (f : Framing) → Leaves (serve box s n f)
-  serve-leaves n more = omega arith
-  serve-leaves n closes = Follows.closed
-  serve-leaves n (whole m v rest) = taking-leaves (9 + length m + length v) (respond box s v (reading box s m)) (respond-follows v (reading box s m))
-
   leaves-choose : (t : Bool) (x y : Outcome State) → Leaves x → Leaves y → Leaves (choose t x y)
   leaves-choose true x y h k = h
   leaves-choose false x y h k = k
+
+  serve-leaves : (n : ℕ) (f : Framing) → Leaves (serve box s n f)
+  serve-leaves n more = omega arith
+  serve-leaves n closes = leaves-choose (box .readingsGood s) (taking n (close s 20)) (refused 7) (Follows.closed, refl) (omega arith)
+  serve-leaves n (whole m v rest) =
+      leaves-choose (box .readingsGood s) (taking (9 + length m + length v) (respond box s v (reading box s m))) (refused 7)
+      (taking-leaves (9 + length m + length v) (respond box s v (reading box s m)) (respond-follows v (reading box s m))) (omega arith)
 
   -- THE CONNECTION AFTER AN ANSWER
   pub answers-leave : (out : ℕ) (xs : List ℕ) → Leaves (answers s out xs)

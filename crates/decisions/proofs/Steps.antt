@@ -33,10 +33,7 @@ use Rattle.judgement.specs.Steps.{judge-by, served, rest, sequenceHeard, typeIn
 use Rattle.admission.specs.Admission.{admission, served-by}
 use Rattle.sending.specs.declared.Address.{Address}
 use Rattle.sending.specs.Sent.{Sent, replied}
-
--- an equal result is sent alike
-sent-as : (a : Address) (by : List ℕ) (x y : Result) {n : ℕ} {out out' : List ℕ} {t : State} → x ≡ y → Sent (replied a by x) n out out' t → Sent (replied a by y) n out out' t
-sent-as a by x y {n} {out} {out'} {t} e h = subst (λ (r : Result). Sent (replied a by r) n out out' t) e h
+use Rattle.sending.specs.SentLaws.{sent-as}
 
 -- a step that gives a code, 0 where it is passed
 failed : (s : State) (next : Result) (code : ℕ) {m : ℕ} → code ≡ m → (code ≡ 0 → ⊥) → fails s code ≡ choose (eqb m 0) next (fails s m)
@@ -52,19 +49,19 @@ module _ (s : State) (acl : access.Acl) (o : Operation) (b : c.Body) (v : List �
   by-code = f ∙ ap (λ (p : Bool). admission acl p o b v) (sym w)
 
   pub not-admitted : (code ≡ 0 → ⊥) → Sent (replied a by (fails s code)) n out out' s → Sent (replied a by (served s acl o b v)) n out out' s
-  not-admitted h g = sent-as a by (fails s code) (served s acl o b v) (failed s (step10 s o b v) code by-code h ∙ sym (served-by s acl o b v)) g
+  not-admitted h g = sent-as a by (failed s (step10 s o b v) code by-code h ∙ sym (served-by s acl o b v)) g
 
   pub done : code ≡ 0 → (after : State) → Sent (replied a by (step10 s o b v)) n out out' after → Sent (replied a by (served s acl o b v)) n out out' after
-  done z after g = sent-as a by (step10 s o b v) (served s acl o b v) (passed s (step10 s o b v) (sym by-code ∙ z) ∙ sym (served-by s acl o b v)) g
+  done z after g = sent-as a by (passed s (step10 s o b v) (sym by-code ∙ z) ∙ sym (served-by s acl o b v)) g
 
 -- ---- step 7
 
 module _ (s : State) (acl : access.Acl) (b : c.Body) (v : List ℕ) (a : Address) (by : List ℕ) (n : ℕ) (out out' : List ℕ) (x : Asked) (type : Option ℕ) (f : x ≡ askedBy type) where
   pub built : (o : Operation) → x ≡ Request o → (after : State) → Sent (replied a by (served s acl o b v)) n out out' after → Sent (replied a by (rest s acl type b v)) n out out' after
-  built o e after g = sent-as a by (served s acl o b v) (rest s acl type b v) (ap (λ (x : Asked). step7 s x (λ o. served s acl o b v)) (sym e ∙ f)) g
+  built o e after g = sent-as a by (ap (λ (x : Asked). step7 s x (λ o. served s acl o b v)) (sym e ∙ f)) g
 
   pub not-built : x ≡ NotBuilt → Sent (replied a by (fails s 16)) n out out' s → Sent (replied a by (rest s acl type b v)) n out out' s
-  not-built e g = sent-as a by (fails s 16) (rest s acl type b v) (ap (λ (x : Asked). step7 s x (λ o. served s acl o b v)) (sym e ∙ f)) g
+  not-built e g = sent-as a by (ap (λ (x : Asked). step7 s x (λ o. served s acl o b v)) (sym e ∙ f)) g
 
 -- ---- steps 4 to 6
 
@@ -137,12 +134,12 @@ module _ {headed : Bool} {h : Header} {v : ℕ} {i q t : Num} {a : Asked} {r : �
     refused z g = sent-told (fails s code) s (failed s (Rest (sequenceHeard Head)) code f z ∙ sym (judge-by s acl Said w)) g
 
     pub accepts : (store device : List ℕ) (after : Connection) → code ≡ 0 → after ≡ heard (s .connection) (q .value)
-        → Sent (replied To by (Rest (q .value))) n out out' (lent store device (heard (s .connection) (q .value))) → Sent (told s identity by Said (judge s acl Said w)) n out out' (lent store device after)
+        → Sent (replied To by (Rest (q .value))) n out out' (lent store device (s .readings) (heard (s .connection) (q .value))) → Sent (told s identity by Said (judge s acl Said w)) n out out' (lent store device (s .readings) after)
     accepts store device after z e g =
         let y = sym f ∙ z in
         let l = accepted-one s Head (q .has) (q .value) (k .sequence ∙ of-header sequenceOf (headerView h) refl headed) y in
-        sent-told (Rest (q .value)) (lent store device after) (ap Rest (sym l) ∙ passed s (Rest (sequenceHeard Head)) y ∙ sym (judge-by s acl Said w))
-        (subst (λ (x : Connection). Sent (replied To by (Rest (q .value))) n out out' (lent store device x)) (sym e) g)
+        sent-told (Rest (q .value)) (lent store device (s .readings) after) (ap Rest (sym l) ∙ passed s (Rest (sequenceHeard Head)) y ∙ sym (judge-by s acl Said w))
+        (subst (λ (x : Connection). Sent (replied To by (Rest (q .value))) n out out' (lent store device (s .readings) x)) (sym e) g)
 
 -- ---- step 3
 

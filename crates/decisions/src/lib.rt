@@ -17,6 +17,7 @@ ghost use Rattle.tree.specs.Tree.{listed};
 ghost use Rattle.tree.specs.declared.Kind.the-variants.{Command};
 ghost use Rattle.wire.specs.Reader.{choose};
 ghost use Rattle.store.specs.Store.{Good};
+ghost use Rattle.readings.specs.Lent.{readingsGood};
 ghost use Rattle.access.specs.Table.{aclOf, placeOf, tableGood};
 ghost use Rattle.access.specs.declared.Found.the-variants.{At};
 ghost use Rattle.access.specs.Record.{tableOf, Placed};
@@ -45,6 +46,7 @@ fn serve(
     o: Operation,
     store: &mut [u8],
     device: &mut Record,
+    readings: &[u8],
     place: usize,
     protected: bool,
     s: &[u8],
@@ -54,14 +56,14 @@ fn serve(
     by: &[u8],
     a: Address,
 ) -> usize
-    requires { ⌜ (4096 ≤ length (now out)) × (length (now by) ≤ 64) × Good (now store) × Placed (now device) place × BodyLies (now s) b ⌝ }
-    ensures { λ r. ⌜ ((c : state.Connection) → c .protected ≡ protected → Sent (replied a (now (by .entry)) (served (lent (now (store .entry)) (now (device .entry)) c) (aclOf (tableOf (now (device .entry))) place) o (bodyView (now (s .entry)) b) (now (value .entry)))) r (now (out .entry)) (now (out .exit)) (lent (now (store .exit)) (now (device .exit)) c)) ⌝ }
+    requires { ⌜ (4096 ≤ length (now out)) × (length (now by) ≤ 64) × Good (now store) × Placed (now device) place × BodyLies (now s) b × (readingsGood (now readings) ≡ true) ⌝ }
+    ensures { λ r. ⌜ ((c : state.Connection) → c .protected ≡ protected → Sent (replied a (now (by .entry)) (served (lent (now (store .entry)) (now (device .entry)) (now (readings .entry)) c) (aclOf (tableOf (now (device .entry))) place) o (bodyView (now (s .entry)) b) (now (value .entry)))) r (now (out .entry)) (now (out .exit)) (lent (now (store .exit)) (now (device .exit)) (now (readings .entry)) c)) ⌝ }
 {
     let refusal = admission::admit(o, device, place, protected, s, b, value.len());
     if refusal != 0 {
         return sending::status(out, by, a, refusal);
     }
-    actions::perform(o, store, device, s, b, value, out, by, a)
+    actions::perform(o, store, device, readings, s, b, value, out, by, a)
 }
 
 // Steps 7 to 10.
@@ -69,6 +71,7 @@ fn obey(
     asked: Asked,
     store: &mut [u8],
     device: &mut Record,
+    readings: &[u8],
     place: usize,
     protected: bool,
     s: &[u8],
@@ -78,11 +81,24 @@ fn obey(
     by: &[u8],
     a: Address,
 ) -> usize
-    requires { ⌜ (4096 ≤ length (now out)) × (length (now by) ≤ 64) × Good (now store) × Placed (now device) place × BodyLies (now s) b ⌝ }
-    ensures { λ r. ⌜ ((c : state.Connection) (type : Option ℕ) → c .protected ≡ protected → asked ≡ askedBy type → Sent (replied a (now (by .entry)) (rest (lent (now (store .entry)) (now (device .entry)) c) (aclOf (tableOf (now (device .entry))) place) type (bodyView (now (s .entry)) b) (now (value .entry)))) r (now (out .entry)) (now (out .exit)) (lent (now (store .exit)) (now (device .exit)) c)) ⌝ }
+    requires { ⌜ (4096 ≤ length (now out)) × (length (now by) ≤ 64) × Good (now store) × Placed (now device) place × BodyLies (now s) b × (readingsGood (now readings) ≡ true) ⌝ }
+    ensures { λ r. ⌜ ((c : state.Connection) (type : Option ℕ) → c .protected ≡ protected → asked ≡ askedBy type → Sent (replied a (now (by .entry)) (rest (lent (now (store .entry)) (now (device .entry)) (now (readings .entry)) c) (aclOf (tableOf (now (device .entry))) place) type (bodyView (now (s .entry)) b) (now (value .entry)))) r (now (out .entry)) (now (out .exit)) (lent (now (store .exit)) (now (device .exit)) (now (readings .entry)) c)) ⌝ }
 {
     match asked {
-        Asked::Request(o) => serve(o, store, device, place, protected, s, b, value, out, by, a),
+        Asked::Request(o) => serve(
+            o,
+            store,
+            device,
+            readings,
+            place,
+            protected,
+            s,
+            b,
+            value,
+            out,
+            by,
+            a,
+        ),
         Asked::NotBuilt => sending::status(out, by, a, 16),
     }
 }
@@ -104,6 +120,7 @@ fn in_header(headed: bool, n: Num) -> Num
 fn judge(
     store: &mut [u8],
     device: &mut Record,
+    readings: &[u8],
     place: usize,
     connection: Connection,
     identity: u64,
@@ -113,8 +130,8 @@ fn judge(
     out: &mut [u8],
     by: &[u8],
 ) -> Replied
-    requires { ⌜ (4096 ≤ length (now out)) × (length (now by) ≤ 64) × Good (now store) × Placed (now device) place × BodyLies (now s) (q .body) ⌝ }
-    ensures { λ r. ⌜ Sent (told (lent (now (store .entry)) (now (device .entry)) (connectionOf connection)) identity (now (by .entry)) (commandIn (now (s .entry)) q) (judge (lent (now (store .entry)) (now (device .entry)) (connectionOf connection)) (aclOf (tableOf (now (device .entry))) place) (commandIn (now (s .entry)) q) (now (value .entry)))) (r .written) (now (out .entry)) (now (out .exit)) (lent (now (store .exit)) (now (device .exit)) (connectionOf (r .connection))) ⌝ }
+    requires { ⌜ (4096 ≤ length (now out)) × (length (now by) ≤ 64) × Good (now store) × Placed (now device) place × BodyLies (now s) (q .body) × (readingsGood (now readings) ≡ true) ⌝ }
+    ensures { λ r. ⌜ Sent (told (lent (now (store .entry)) (now (device .entry)) (now (readings .entry)) (connectionOf connection)) identity (now (by .entry)) (commandIn (now (s .entry)) q) (judge (lent (now (store .entry)) (now (device .entry)) (now (readings .entry)) (connectionOf connection)) (aclOf (tableOf (now (device .entry))) place) (commandIn (now (s .entry)) q) (now (value .entry)))) (r .written) (now (out .entry)) (now (out .exit)) (lent (now (store .exit)) (now (device .exit)) (now (readings .entry)) (connectionOf (r .connection))) ⌝ }
 {
     let version = number_or(q.header.cluster, 0);
     let id = in_header(q.headed, q.header.connection);
@@ -150,6 +167,7 @@ fn judge(
             asked,
             store,
             device,
+            readings,
             place,
             connection.protected,
             s,
@@ -167,6 +185,7 @@ fn judge(
 pub fn decide(
     store: &mut [u8],
     device: &mut Record,
+    readings: &[u8],
     place: usize,
     connection: Connection,
     identity: u64,
@@ -175,8 +194,8 @@ pub fn decide(
     out: &mut [u8],
     by: &[u8],
 ) -> Replied
-    requires { ⌜ (4096 ≤ length (now out)) × (length (now by) ≤ 64) × Good (now store) × (tableGood (tableOf (now device)) ≡ true) × (placeOf (tableOf (now device)) identity ≡ At place) ⌝ }
-    ensures { λ r. ⌜ Sent (respond box (lent (now (store .entry)) (now (device .entry)) (connectionOf connection)) (now (value .entry)) (decoded identity (now (by .entry)) (listed Command (now (s .entry))))) (r .written) (now (out .entry)) (now (out .exit)) (lent (now (store .exit)) (now (device .exit)) (connectionOf (r .connection))) ⌝ }
+    requires { ⌜ (4096 ≤ length (now out)) × (length (now by) ≤ 64) × Good (now store) × (tableGood (tableOf (now device)) ≡ true) × (placeOf (tableOf (now device)) identity ≡ At place) × (readingsGood (now readings) ≡ true) ⌝ }
+    ensures { λ r. ⌜ Sent (respond box (lent (now (store .entry)) (now (device .entry)) (now (readings .entry)) (connectionOf connection)) (now (value .entry)) (decoded identity (now (by .entry)) (listed Command (now (s .entry))))) (r .written) (now (out .entry)) (now (out .exit)) (lent (now (store .exit)) (now (device .exit)) (now (readings .entry)) (connectionOf (r .connection))) ⌝ }
 {
     let r = requests::read_request(s);
     let ok = r.ok;
@@ -184,6 +203,7 @@ pub fn decide(
         return judge(
             store,
             device,
+            readings,
             place,
             connection,
             identity,

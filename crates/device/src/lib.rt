@@ -22,20 +22,24 @@ ghost use Rattle.protocol.specs.Box.{box, answers};
 ghost use Rattle.connections.specs.Means.{connectionOf};
 ghost use Rattle.responses.specs.Means.{called, afterwards};
 
-// The input answered, once no refusal but MORE is left.
+// The input answered, once no refusal but MORE and that of the readings is left.
 fn serve(
     store: &mut [u8],
     device: &mut Record,
+    readings: &[u8],
     connection: Connection,
     input: &[u8],
     out: &mut [u8],
 ) -> Response
     requires { ⌜ (4096 ≤ length (now out)) × Good (now store) × (tableGood (tableOf (now device)) ≡ true) ⌝ }
-    ensures { λ r. ⌜ called (connectionOf connection) r (now (store .exit)) (now (device .exit)) (now (out .exit)) ≡ afterwards (lent (now (store .entry)) (now (device .entry)) (connectionOf connection)) (now (out .entry)) (serve box (lent (now (store .entry)) (now (device .entry)) (connectionOf connection)) (length (now (input .entry))) (frameOf (now (input .entry)))) ⌝ }
+    ensures { λ r. ⌜ called (connectionOf connection) (now (readings .entry)) r (now (store .exit)) (now (device .exit)) (now (out .exit)) ≡ afterwards (lent (now (store .entry)) (now (device .entry)) (now (readings .entry)) (connectionOf connection)) (now (out .entry)) (serve box (lent (now (store .entry)) (now (device .entry)) (now (readings .entry)) (connectionOf connection)) (length (now (input .entry))) (frameOf (now (input .entry)))) ⌝ }
 {
     match framing::frame_at(input) {
         Framed::More => Response::More,
         Framed::Closes => {
+            if !readings::good(readings) {
+                return Response::ReadingsBad;
+            }
             let r = receiving::close(connection, out, 20);
             let connection = r.connection;
             Response::Answered {
@@ -45,9 +49,20 @@ fn serve(
             }
         }
         Framed::Whole { message, value } => {
+            if !readings::good(readings) {
+                return Response::ReadingsBad;
+            }
             let m = 9 + message;
             let v = m + value;
-            let r = receiving::respond(store, device, connection, &input[9..m], &input[m..v], out);
+            let r = receiving::respond(
+                store,
+                device,
+                readings,
+                connection,
+                &input[9..m],
+                &input[m..v],
+                out,
+            );
             let connection = r.connection;
             Response::Answered {
                 written: r.written,
@@ -62,11 +77,12 @@ fn serve(
 pub fn answer(
     store: &mut [u8],
     device: &mut Record,
+    readings: &[u8],
     connection: Connection,
     input: &[u8],
     out: &mut [u8],
 ) -> Response
-    ensures { λ r. ⌜ called (connectionOf connection) r (now (store .exit)) (now (device .exit)) (now (out .exit)) ≡ afterwards (lent (now (store .entry)) (now (device .entry)) (connectionOf connection)) (now (out .entry)) (answers (lent (now (store .entry)) (now (device .entry)) (connectionOf connection)) (length (now (out .entry))) (now (input .entry))) ⌝ }
+    ensures { λ r. ⌜ called (connectionOf connection) (now (readings .entry)) r (now (store .exit)) (now (device .exit)) (now (out .exit)) ≡ afterwards (lent (now (store .entry)) (now (device .entry)) (now (readings .entry)) (connectionOf connection)) (now (out .entry)) (answers (lent (now (store .entry)) (now (device .entry)) (now (readings .entry)) (connectionOf connection)) (length (now (out .entry))) (now (input .entry))) ⌝ }
 {
     if out.len() < 4096 {
         return Response::OutShort;
@@ -81,5 +97,5 @@ pub fn answer(
     if closed {
         return Response::Closed;
     }
-    serve(store, device, connection, input, out)
+    serve(store, device, readings, connection, input, out)
 }

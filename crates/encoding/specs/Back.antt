@@ -10,15 +10,15 @@ use lib.Seq.{take-length, drop-length}
 use lib.Dec.{eqb}
 use borrow.Author.Tests.{lt-ltb, le-leb}
 use Rattle.wire.specs.Reader.{choose, got, part}
-use Rattle.wire.specs.Wire.{Value, vint, vlen, Field, field, valueOf, readField, fieldsIn, fieldsOf, consO, Framed}
+use Rattle.wire.specs.Wire.{Value, vint, vlen, v32, Field, field, valueOf, readField, fieldsIn, fieldsOf, consO, Framed}
 use Rattle.wire.specs.WireLaws.{fields-put}
 use Rattle.wire.specs.Varint.{varintBytes}
 use Rattle.wire.specs.VarintLaws.{varint-whole, varint-back}
 use Rattle.tree.specs.Rules.{strictOf, ruleOf}
-use Rattle.tree.specs.Tree.{mapO, thenO, isSome, among, Content, cInt, cRaw, cMsg, Item, item, decode, find, add, byRule, step, items, itemsO, level}
+use Rattle.tree.specs.Tree.{mapO, thenO, isSome, among, Content, cInt, cRaw, cFix, cMsg, Item, item, decode, find, add, byRule, step, items, itemsO, level}
 use Rattle.tree.specs.Tree.{Tree, sub, openOne, openAll, listedIn, listed}
 use Rattle.encoding.specs.Basics.{never}
-use Rattle.encoding.specs.Encode.{tag, intField, lenField, encode, FieldNumber, says, FitsAfter, ends, ints, raws, subs, Fits}
+use Rattle.encoding.specs.Encode.{tag, intField, lenField, fixField, encode, FieldNumber, says, FitsAfter, ends, ints, raws, fixs, subs, Fits}
 use Rattle.encoding.specs.Depth.{depth, says-message, depth-most}
 use Rattle.tree.specs.declared.Kind.{Kind}
 use Rattle.tree.specs.declared.Rule.{Rule}
@@ -48,6 +48,12 @@ len-framed n b h l = record {
   whole = ap readField (append-assoc (tag n 2) (varintBytes (length b)) b) ∙ tag-back n 2 (varintBytes (length b) ++ b) h (omega arith)
       ∙ rw (varint-back (length b) b l, part-all b);
 }
+
+pub fix-framed : (n : ℕ) (b : List ℕ) → FieldNumber n → length b ≡ 4 → Framed (field n (v32 b)) (fixField n b)
+unfolding valueOf
+fix-framed n b h l =
+    let p : part 4 b ≡ got b [] = ap (λ k. part k b) (sym l) ∙ part-all b in
+    record { whole = tag-back n 5 b h (omega arith) ∙ rw p }
 
 -- one level ---------------------------------------------------------------------------
 
@@ -134,6 +140,9 @@ back (ints {k = k} {n = n} {v = v} {t = t} h l g r) d j acc e =
 back (raws {k = k} {n = n} {b = b} {t = t} h l g r) d j acc e =
     back-cons d k n (vlen b) (cRaw b) (encode t) (len-framed n b h l) (rw (e .same n) g) refl
     (back r d j (acc ++ (item n (cRaw b) ∷ [])) (known-snoc n (cRaw b) e))
+back (fixs {k = k} {n = n} {b = b} {t = t} h l g r) d j acc e =
+    back-cons d k n (v32 b) (cFix b) (encode t) (fix-framed n b h l) (rw (e .same n) g) refl
+    (back r d j (acc ++ (item n (cFix b) ∷ [])) (known-snoc n (cFix b) e))
 back (subs {k = k} {ns = ns} {n = n} {s = s} {t = t} k' h l g q r) zero j acc e =
     absurd (omega (arith, says-message k n (among n ns) k' (encode s) (encode s) g .0))
 back (subs {k = k} {ns = ns} {n = n} {s = s} {t = t} k' h l g q r) (suc d) j acc e =

@@ -17,14 +17,14 @@ use Rattle.wire.specs.WireLaws.{varint-below}
 use Rattle.wire.specs.Varint.{varintUp, varintBytes}
 use Rattle.wire.specs.VarintLaws.{varint-shortest}
 use Rattle.tree.specs.Rules.{namesOf, strictOf, ruleOf}
-use Rattle.tree.specs.Tree.{mapO, thenO, guard, isSome, among, isInt32, Content, cInt, cRaw, cMsg, Item, item, decode, find, add, byRule, step, items, itemsO, level}
-use Rattle.tree.specs.Tree.{Tree, done, int, raw, sub, openOne, openAll, listedIn, listed}
+use Rattle.tree.specs.Tree.{mapO, thenO, guard, isSome, among, isInt32, Content, cInt, cRaw, cFix, cMsg, Item, item, decode, find, add, byRule, step, items, itemsO, level}
+use Rattle.tree.specs.Tree.{Tree, done, int, raw, fix, sub, openOne, openAll, listedIn, listed}
 use Rattle.encoding.specs.Basics.{never, guarded}
-use Rattle.encoding.specs.Encode.{tag, intField, head, lenField, encode, FieldNumber, says, FitsAfter, ends, ints, raws, subs, Fits}
+use Rattle.encoding.specs.Encode.{tag, intField, head, lenField, fixField, encode, FieldNumber, says, FitsAfter, ends, ints, raws, fixs, subs, Fits}
 use Rattle.encoding.specs.Back.{Known, known-none, known-snoc, read-back}
 use Rattle.tree.specs.declared.Kind.{Kind}
 use Rattle.tree.specs.declared.Form.{Form}
-use Rattle.tree.specs.declared.Form.the-variants.{Int64, Int32, Named, Flag, Bytes, Opaque, Nested}
+use Rattle.tree.specs.declared.Form.the-variants.{Int64, Int32, Named, Flag, Bytes, Opaque, Float, Nested}
 use Rattle.tree.specs.declared.Rule.{Rule}
 use Rattle.tree.specs.declared.Rule.the-variants.{Unlisted, Refused, Single, Repeated}
 
@@ -75,21 +75,21 @@ abbrev Ranged : Value → Type 0
 Ranged (vint v) = v < 2 ^ 64
 Ranged (v64 b) = Unit {0}
 Ranged (vlen b) = length b < 2 ^ 64
-Ranged (v32 b) = Unit {0}
+Ranged (v32 b) = length b ≡ 4
 
 -- its bytes in the shortest form, if it can be listed
 abbrev sizeOf : ℕ → Value → ℕ
 sizeOf n (vint v) = length (intField n v)
 sizeOf n (v64 b) = 0
 sizeOf n (vlen b) = length (lenField n b)
-sizeOf n (v32 b) = 0
+sizeOf n (v32 b) = length (fixField n b)
 
 -- the value of field n, of wire type w, read of s up to r
 abbrev Valued : ℕ → ℕ → List ℕ → List ℕ → Field → Type 0
 Valued n w s r (field m (vint v)) = (m ≡ n) × (w ≡ 0) × (v < 2 ^ 64) × (length (varintBytes v) + length r ≤ length s)
 Valued n w s r (field m (v64 b)) = (m ≡ n) × (length r ≤ length s)
 Valued n w s r (field m (vlen b)) = (m ≡ n) × (w ≡ 2) × (length b < 2 ^ 64) × (length (varintBytes (length b)) + length b + length r ≤ length s)
-Valued n w s r (field m (v32 b)) = (m ≡ n) × (length r ≤ length s)
+Valued n w s r (field m (v32 b)) = (m ≡ n) × (w ≡ 5) × (length b ≡ 4) × (length b + length r ≤ length s)
 
 abbrev intReader : ℕ → Reader Field
 intReader n = andThen varint (λ v. give (field n (vint v)))
@@ -138,13 +138,14 @@ long-valued n w s f r e =
     let l : length r ≤ length s = omega (arith, part-got 8 s (i .2) .1, ap length x) in
     subst (λ g. Valued n w s r g) q (refl, l)
 
-short-valued : (n w : ℕ) (s : List ℕ) (f : Field) (r : List ℕ) → fixedReader 4 v32 n s ≡ got f r → Valued n w s r f
-short-valued n w s f r e =
+short-valued : (n w : ℕ) (s : List ℕ) (f : Field) (r : List ℕ) → w ≡ 5 → fixedReader 4 v32 n s ≡ got f r → Valued n w s r f
+short-valued n w s f r z e =
     let i = then-got (part 4 s) (λ b. give (field n (v32 b))) e in
+    let p = part-got 4 s (i .2) in
     let q : field n (v32 (i .0)) ≡ f = cc (i .3) in
     let x : i .1 ≡ r = cc (i .3) in
-    let l : length r ≤ length s = omega (arith, part-got 4 s (i .2) .1, ap length x) in
-    subst (λ g. Valued n w s r g) q (refl, l)
+    let l : length (i .0) + length r ≤ length s = omega (arith, p .1, ap length x) in
+    subst (λ g. Valued n w s r g) q (refl, z, p .0, l)
 
 choose-cases : (t : Bool) (a b : Got Field) {f : Field} {r : List ℕ} → choose t a b ≡ got f r
     → ((t ≡ true) × (a ≡ got f r)) ⊎ (b ≡ got f r)
@@ -160,7 +161,9 @@ value-valued n w s f r e =
     ⊎-elim (λ z. int-valued n w s f r (eqb-true w 0 (z .0)) (z .1))
     (λ a. ⊎-elim (λ z. long-valued n w s f r (z .1))
     (λ b. ⊎-elim (λ z. len-valued n w s f r (eqb-true w 2 (z .0)) (z .1))
-    (λ c. short-valued n w s f r (choose-got (eqb w 5) (fixedReader 4 v32 n s) c .1))
+    (λ c.
+    let z = choose-got (eqb w 5) (fixedReader 4 v32 n s) c in
+    short-valued n w s f r (eqb-true w 5 (z .0)) (z .1))
     (choose-cases (eqb w 2) (lenReader n s) short b)) (choose-cases (eqb w 1) (fixedReader 8 v64 n s) len a))
     (choose-cases (eqb w 0) (intReader n s) long e)
 
@@ -179,7 +182,9 @@ tagged xs t s (field m (v64 b)) r h k l v = (record { above = omega (arith, v .0
 tagged xs t s (field m (vlen b)) r h k l v =
     let e : t ≡ 8 * m + 2 = omega (arith, v .0, v .1) in
     (record { above = omega (arith, v .0); below = omega (arith, v .0) }, v .2, omega (arith, v .3, len-length m b, ap (λ x. length (varintBytes x)) e))
-tagged xs t s (field m (v32 b)) r h k l v = (record { above = omega (arith, v .0); below = omega (arith, v .0) }, tt, omega (arith, v .1))
+tagged xs t s (field m (v32 b)) r h k l v =
+    let e : t ≡ 8 * m + 5 = omega (arith, v .0, v .1) in
+    (record { above = omega (arith, v .0); below = omega (arith, v .0) }, v .2, omega (arith, v .3, length-append (tag m 5) b, ap (λ x. length (varintBytes x)) e))
 
 field-sound : (xs : List ℕ) (f : Field) (r : List ℕ) → readField xs ≡ got f r → Sound xs r f
 unfolding readField
@@ -231,11 +236,13 @@ fields-sound (suc n) (b ∷ xs) fs e = go (readField (b ∷ xs)) refl e (λ r gs
 abbrev Held : (Value → Option Content) → Content → Type 0
 Held read (cInt w) = (w < 2 ^ 64) × (read (vint w) ≡ some (cInt w))
 Held read (cRaw b) = (length b < 2 ^ 64) × (read (vlen b) ≡ some (cRaw b))
+Held read (cFix b) = (length b ≡ 4) × (read (v32 b) ≡ some (cFix b))
 Held read (cMsg k b) = (length b < 2 ^ 64) × ((x : List ℕ) → read (vlen x) ≡ some (cMsg k x))
 
 abbrev itemSize : ℕ → Content → ℕ
 itemSize n (cInt w) = length (intField n w)
 itemSize n (cRaw b) = length (lenField n b)
+itemSize n (cFix b) = length (fixField n b)
 itemSize n (cMsg k b) = length (lenField n b)
 
 abbrev Kept : (Value → Option Content) → Value → Content → Type 0
@@ -263,6 +270,7 @@ decoded Flag (vint u) c h e =
     let q : cInt (choose (eqb u 0) 0 1) ≡ c = cc in subst (λ c. Kept (λ v. decode Flag v) (vint u) c) q (flag-kept u (eqb u 0) refl)
 decoded Bytes (vint u) c h e = none-some e
 decoded Opaque (vint u) c h e = none-some e
+decoded Float (vint u) c h e = none-some e
 decoded (Nested k) (vint u) c h e = none-some e
 decoded f (v64 b) c h e = none-some e
 decoded Int64 (vlen b) c h e = none-some e
@@ -273,9 +281,17 @@ decoded Bytes (vlen b) c h e = let q : cRaw b ≡ c = cc in subst (λ c. Kept (�
 decoded Opaque (vlen b) c h e =
     let q : cRaw [] ≡ c = cc in
     subst (λ c. Kept (λ v. decode Opaque v) (vlen b) c) q ((omega arith, refl), λ n. len-grows n [] b (omega arith))
+decoded Float (vlen b) c h e = none-some e
 decoded (Nested k) (vlen b) c h e =
     let q : cMsg k b ≡ c = cc in subst (λ c. Kept (λ v. decode (Nested k) v) (vlen b) c) q ((h, λ x. refl), λ n. omega arith)
-decoded f (v32 b) c h e = none-some e
+decoded Int64 (v32 b) c h e = none-some e
+decoded Int32 (v32 b) c h e = none-some e
+decoded (Named k) (v32 b) c h e = none-some e
+decoded Flag (v32 b) c h e = none-some e
+decoded Bytes (v32 b) c h e = none-some e
+decoded Opaque (v32 b) c h e = none-some e
+decoded Float (v32 b) c h e = let q : cFix b ≡ c = cc in subst (λ c. Kept (λ v. decode Float v) (v32 b) c) q ((h, refl), λ n. omega arith)
+decoded (Nested k) (v32 b) c h e = none-some e
 
 added : (f : Form) (n : ℕ) (v : Value) (acc : List Item) {out : List Item} → Ranged v → add n acc (decode f v) ≡ some out
     → (c : Content) × Kept (λ v. decode f v) v c × (acc ++ (item n c ∷ []) ≡ out)
@@ -354,6 +370,10 @@ one-opened below ih k ns n (cRaw b) u t z m h f l e =
     let q : raw n b u ≡ t = cc in
     let j : length (lenField n b ++ encode u) ≤ length (lenField n b) + z = omega (arith, length-append (lenField n b) (encode u)) in
     subst (λ t. FitsAfter k ns t × (length (encode t) ≤ length (lenField n b) + z)) q (raws m (h .0) (h .1) f, j)
+one-opened below ih k ns n (cFix b) u t z m h f l e =
+    let q : fix n b u ≡ t = cc in
+    let j : length (fixField n b ++ encode u) ≤ length (fixField n b) + z = omega (arith, length-append (fixField n b) (encode u)) in
+    subst (λ t. FitsAfter k ns t × (length (encode t) ≤ length (fixField n b) + z)) q (fixs m (h .0) (h .1) f, j)
 one-opened below ih k ns n (cMsg k' b) u t z m h f l e =
     let i = map-some (λ s. sub n s u) (below k' b) e in
     let s = i .0 in

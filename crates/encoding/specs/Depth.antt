@@ -14,9 +14,9 @@ use Rattle.tree.specs.Tree.{cMsg, ofBytes}
 use Rattle.encoding.specs.Basics.{never}
 use Rattle.encoding.specs.Encode.{says}
 use Rattle.tree.specs.declared.Kind.{Kind}
-use Rattle.tree.specs.declared.Kind.the-variants.{Message, HmacAuth, Command, Header, Body, KeyValue, Range, Setup, Security, Acl, Scope, ReplyCommand, ReplyBody, ReplyRange, Status}
+use Rattle.tree.specs.declared.Kind.the-variants.{Message, HmacAuth, Command, Header, Body, KeyValue, Range, Setup, GetLog, Security, Acl, Scope, ReplyCommand, ReplyBody, ReplyRange, ReplyGetLog, Utilization, Temperature, Capacity, Limits, Status}
 use Rattle.tree.specs.declared.Form.{Form}
-use Rattle.tree.specs.declared.Form.the-variants.{Int64, Int32, Named, Flag, Bytes, Opaque, Nested}
+use Rattle.tree.specs.declared.Form.the-variants.{Int64, Int32, Named, Flag, Bytes, Opaque, Float, Nested}
 use Rattle.tree.specs.declared.Rule.{Rule}
 use Rattle.tree.specs.declared.Rule.the-variants.{Unlisted, Refused, Single, Repeated}
 
@@ -29,12 +29,18 @@ depth Body = 3
 depth KeyValue = 0
 depth Range = 0
 depth Setup = 0
+depth GetLog = 0
 depth Security = 2
 depth Acl = 1
 depth Scope = 0
 depth ReplyCommand = 4
 depth ReplyBody = 3
 depth ReplyRange = 0
+depth ReplyGetLog = 1
+depth Utilization = 0
+depth Temperature = 0
+depth Capacity = 0
+depth Limits = 0
 depth Status = 0
 
 abbrev formBelow : ℕ → Form → Bool
@@ -44,6 +50,7 @@ formBelow d (Named e) = true
 formBelow d Flag = true
 formBelow d Bytes = true
 formBelow d Opaque = true
+formBelow d Float = true
 formBelow d (Nested k) = ltb (depth k) d
 
 abbrev ruleBelow : ℕ → Rule → Bool
@@ -65,12 +72,18 @@ table-below Body = refl
 table-below KeyValue = refl
 table-below Range = refl
 table-below Setup = refl
+table-below GetLog = refl
 table-below Security = refl
 table-below Acl = refl
 table-below Scope = refl
 table-below ReplyCommand = refl
 table-below ReplyBody = refl
 table-below ReplyRange = refl
+table-below ReplyGetLog = refl
+table-below Utilization = refl
+table-below Temperature = refl
+table-below Capacity = refl
+table-below Limits = refl
 table-below Status = refl
 
 both-true : (s t : Bool) → choose s t false ≡ true → (s ≡ true) × (t ≡ true)
@@ -93,6 +106,7 @@ form-message (Named n) k b c e = never (cc)
 form-message Flag k b c e = never (cc)
 form-message Bytes k b c e = never (cc)
 form-message Opaque k b c e = never (cc)
+form-message Float k b c e = never (cc)
 form-message (Nested j) k b c e = (cc, cc)
 
 form-below : (d : ℕ) (f : Form) (k : Kind) (b c : List ℕ) → formBelow d f ≡ true → ofBytes f b ≡ some (cMsg k c) → (depth k < d) × (c ≡ b)
@@ -121,10 +135,16 @@ depth-most Body = omega arith
 depth-most KeyValue = omega arith
 depth-most Range = omega arith
 depth-most Setup = omega arith
+depth-most GetLog = omega arith
 depth-most Security = omega arith
 depth-most Acl = omega arith
 depth-most Scope = omega arith
 depth-most ReplyCommand = omega arith
 depth-most ReplyBody = omega arith
 depth-most ReplyRange = omega arith
+depth-most ReplyGetLog = omega arith
+depth-most Utilization = omega arith
+depth-most Temperature = omega arith
+depth-most Capacity = omega arith
+depth-most Limits = omega arith
 depth-most Status = omega arith

@@ -1,15 +1,15 @@
 -- The bytes of a tree, and which trees a kind of message may carry.
-use Prim.Native.Nat.{ℕ, zero, suc, _+_, _*_, _^_, _≤_, _<_}
+use Prim.Native.Nat.{ℕ, zero, suc, _+_, _*_, _/_, _%_, _^_, _≤_, _<_}
 use mathlib.Core.Path.{_≡_}
 use mathlib.Core.List.{List, [], _∷_, _++_}
 use mathlib.Core.Option.{Option, none, some}
 use mathlib.Core.Bool.{Bool}
 use lib.ListN.{length}
 use Rattle.wire.specs.Reader.{choose}
-use Rattle.wire.specs.Wire.{Value, vint, vlen}
+use Rattle.wire.specs.Wire.{Value, vint, vlen, v32}
 use Rattle.wire.specs.Varint.{varintBytes}
 use Rattle.tree.specs.Rules.{ruleOf}
-use Rattle.tree.specs.Tree.{among, Content, cInt, cRaw, cMsg, decode, Tree, done, int, raw, sub}
+use Rattle.tree.specs.Tree.{among, Content, cInt, cRaw, cFix, cMsg, decode, Tree, done, int, raw, fix, sub}
 use Rattle.tree.specs.declared.Kind.{Kind}
 use Rattle.tree.specs.declared.Rule.{Rule}
 use Rattle.tree.specs.declared.Rule.the-variants.{Unlisted, Refused, Single, Repeated}
@@ -32,11 +32,20 @@ head n l = tag n 2 ++ varintBytes l
 abbrev pub lenField : ℕ → List ℕ → List ℕ
 lenField n b = head n (length b) ++ b
 
+-- the four bytes of a float that is the 32-bit number b: the lowest first
+abbrev pub floatBytes : ℕ → List ℕ
+floatBytes b = b % 256 ∷ b / 256 % 256 ∷ b / 65536 % 256 ∷ b / 16777216 ∷ []
+
+-- a field that holds a float's four bytes: wire type 5
+abbrev pub fixField : ℕ → List ℕ → List ℕ
+fixField n b = tag n 5 ++ b
+
 -- the fields in the tree's order
 unfoldable pub encode : Tree → List ℕ
 encode done = []
 encode (int n v t) = intField n v ++ encode t
 encode (raw n b t) = lenField n b ++ encode t
+encode (fix n b t) = fixField n b ++ encode t
 encode (sub n s t) = lenField n (encode s) ++ encode t
 
 -- fields that may be left out, before the rest of a tree ------------------------------
@@ -56,10 +65,25 @@ unfoldable pub rawIf : ℕ → List ℕ → Tree → Tree
 rawIf n [] t = t
 rawIf n (b ∷ bs) t = raw n (b ∷ bs) t
 
+-- a float, if there is one
+unfoldable pub fixO : ℕ → Option (List ℕ) → Tree → Tree
+fixO n none t = t
+fixO n (some b) t = fix n b t
+
 -- a repeated field: document 01, "Replies": "range with 8 for each key"
 unfoldable pub each : ℕ → List (List ℕ) → Tree → Tree
 each n [] t = t
 each n (b ∷ bs) t = raw n b (each n bs t)
+
+-- a message, if there is one
+unfoldable pub subO : ℕ → Option Tree → Tree → Tree
+subO n none t = t
+subO n (some s) t = sub n s t
+
+-- a repeated message
+unfoldable pub eachSub : ℕ → List Tree → Tree → Tree
+eachSub n [] t = t
+eachSub n (s ∷ ss) t = sub n s (eachSub n ss t)
 
 -- what a kind may carry: `Back` shows that such a tree is read back, `Canonical` that only such trees are read --------
 
@@ -82,6 +106,8 @@ pub data FitsAfter : Kind → List ℕ → Tree → Type 0 where
       → FitsAfter k (n ∷ ns) t → FitsAfter k ns (int n v t)
   raws : {k : Kind} {ns : List ℕ} {n : ℕ} {b : List ℕ} {t : Tree} → FieldNumber n → length b < 2 ^ 64 → says (ruleOf k n) (among n ns) (vlen b) ≡ some (cRaw b)
       → FitsAfter k (n ∷ ns) t → FitsAfter k ns (raw n b t)
+  fixs : {k : Kind} {ns : List ℕ} {n : ℕ} {b : List ℕ} {t : Tree} → FieldNumber n → length b ≡ 4 → says (ruleOf k n) (among n ns) (v32 b) ≡ some (cFix b)
+      → FitsAfter k (n ∷ ns) t → FitsAfter k ns (fix n b t)
   subs : {k : Kind} {ns : List ℕ} {n : ℕ} {s t : Tree} (k' : Kind) → FieldNumber n → length (encode s) < 2 ^ 64
       → says (ruleOf k n) (among n ns) (vlen (encode s)) ≡ some (cMsg k' (encode s)) → FitsAfter k' [] s → FitsAfter k (n ∷ ns) t → FitsAfter k ns (sub n s t)
 

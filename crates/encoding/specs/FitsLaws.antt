@@ -9,12 +9,12 @@ use lib.ListN.{length}
 use lib.Dec.{ltb, leb, eqb}
 use borrow.Author.Tests.{ltb-true, leb-true}
 use Rattle.wire.specs.Reader.{choose}
-use Rattle.wire.specs.Wire.{Value, vint, vlen}
+use Rattle.wire.specs.Wire.{Value, vint, vlen, v32}
 use Rattle.tree.specs.Rules.{ruleOf}
-use Rattle.tree.specs.Tree.{among, Content, cInt, cRaw, cMsg, Tree, int, raw, sub}
+use Rattle.tree.specs.Tree.{among, Content, cInt, cRaw, cFix, cMsg, Tree, int, raw, fix, sub}
 use Rattle.encoding.specs.Basics.{never}
-use Rattle.encoding.specs.Encode.{encode, intO, intIf, rawIf, each, FieldNumber, says, FitsAfter, ends, ints, raws, subs}
-use Rattle.encoding.specs.Cost.{cost, AtMost, encode-cost}
+use Rattle.encoding.specs.Encode.{encode, intO, intIf, rawIf, fixO, each, subO, eachSub, FieldNumber, says, FitsAfter, ends, ints, raws, fixs, subs}
+use Rattle.encoding.specs.Cost.{cost, AtMost, CostMost, encode-cost}
 use Rattle.tree.specs.declared.Kind.{Kind}
 use Rattle.tree.specs.declared.Rule.{Rule}
 use Rattle.tree.specs.declared.Rule.the-variants.{Unlisted, Refused, Single, Repeated}
@@ -66,6 +66,8 @@ fits-fewer (ints {k = k} {ns = ns} {n = n} {v = v} h l g r) ms f =
     ints h l (says-fewer (ruleOf k n) (among n ns) (among n ms) (vint v) (cInt v) (f .free n) g) (fits-fewer r (n ∷ ms) (fewer-cons n f))
 fits-fewer (raws {k = k} {ns = ns} {n = n} {b = b} h l g r) ms f =
     raws h l (says-fewer (ruleOf k n) (among n ns) (among n ms) (vlen b) (cRaw b) (f .free n) g) (fits-fewer r (n ∷ ms) (fewer-cons n f))
+fits-fewer (fixs {k = k} {ns = ns} {n = n} {b = b} h l g r) ms f =
+    fixs h l (says-fewer (ruleOf k n) (among n ns) (among n ms) (v32 b) (cFix b) (f .free n) g) (fits-fewer r (n ∷ ms) (fewer-cons n f))
 fits-fewer (subs {k = k} {ns = ns} {n = n} {s = s} k' h l g q r) ms f =
     subs k' h l (says-fewer (ruleOf k n) (among n ns) (among n ms) (vlen (encode s)) (cMsg k' (encode s)) (f .free n) g) q
     (fits-fewer r (n ∷ ms) (fewer-cons n f))
@@ -83,6 +85,16 @@ fit-int h l g r = ints h l g r
 pub fit-raw : {k : Kind} {ns : List ℕ} {n : ℕ} {b : List ℕ} {t : Tree} → FieldNumber n → length b < 2 ^ 64
     → says (ruleOf k n) (among n ns) (vlen b) ≡ some (cRaw b) → FitsAfter k (n ∷ ns) t → FitsAfter k ns (raw n b t)
 fit-raw h l g r = raws h l g r
+
+pub fit-fix : {k : Kind} {ns : List ℕ} {n : ℕ} {b : List ℕ} {t : Tree} → FieldNumber n → length b ≡ 4
+    → says (ruleOf k n) (among n ns) (v32 b) ≡ some (cFix b) → FitsAfter k (n ∷ ns) t → FitsAfter k ns (fix n b t)
+fit-fix h l g r = fixs h l g r
+
+pub fit-fixO : {k : Kind} {n : ℕ} {ns : List ℕ} {t : Tree} (a : Option (List ℕ)) → FieldNumber n
+    → ((b : List ℕ) → a ≡ some b → (length b ≡ 4) × (says (ruleOf k n) (among n ns) (v32 b) ≡ some (cFix b))) → FitsAfter k (n ∷ ns) t → FitsAfter k ns (fixO n a t)
+unfolding fixO
+fit-fixO none h g r = fit-skip r
+fit-fixO (some b) h g r = let e = g b refl in fixs h (e .0) (e .1) r
 
 -- a message inside whose cost is small
 pub fit-sub : {k : Kind} {ns : List ℕ} {n : ℕ} {s t : Tree} (k' : Kind) → FieldNumber n → cost s < 2 ^ 64
@@ -115,3 +127,24 @@ fit-each m [] h l a g r = fit-skip r
 fit-each {n = n} {ns = ns} m (b ∷ bs) h l a g r =
     let q : length b < 2 ^ 64 = omega (arith, a .0) in
     raws h q (g (among n ns) b) (fit-each m bs h l (a .1) g (fits-fewer r (n ∷ n ∷ ns) (fewer-twice n ns)))
+
+-- messages that all fit a kind
+abbrev pub AllFit : Kind → List Tree → Type 0
+AllFit k [] = Unit {0}
+AllFit k (s ∷ ss) = FitsAfter k [] s × AllFit k ss
+
+-- a repeated message whose cost is small
+pub fit-eachSub : {k : Kind} {n : ℕ} {ns : List ℕ} {t : Tree} (k' : Kind) (m : ℕ) (ss : List Tree) → FieldNumber n → m < 2 ^ 64 → CostMost m ss
+    → ((s : Bool) (b : List ℕ) → says (ruleOf k n) s (vlen b) ≡ some (cMsg k' b)) → AllFit k' ss → FitsAfter k (n ∷ ns) t → FitsAfter k ns (eachSub n ss t)
+unfolding eachSub
+fit-eachSub k' m [] h l a g f r = fit-skip r
+fit-eachSub {n = n} {ns = ns} k' m (s ∷ ss) h l a g f r =
+    let q : length (encode s) < 2 ^ 64 = omega (arith, a .0, encode-cost (f .0)) in
+    subs k' h q (g (among n ns) (encode s)) (f .0) (fit-eachSub k' m ss h l (a .1) g (f .1) (fits-fewer r (n ∷ n ∷ ns) (fewer-twice n ns)))
+
+pub fit-subO : {k : Kind} {n : ℕ} {ns : List ℕ} {t : Tree} (k' : Kind) (o : Option Tree) → FieldNumber n
+    → ((s : Tree) → o ≡ some s → (cost s < 2 ^ 64) × FitsAfter k' [] s) → ((b : List ℕ) → says (ruleOf k n) (among n ns) (vlen b) ≡ some (cMsg k' b))
+    → FitsAfter k (n ∷ ns) t → FitsAfter k ns (subO n o t)
+unfolding subO
+fit-subO k' none h f g r = fit-skip r
+fit-subO k' (some s) h f g r = let e = f s refl in fit-sub k' h (e .0) (g (encode s)) (e .1) r

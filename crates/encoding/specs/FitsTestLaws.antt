@@ -7,13 +7,13 @@ use mathlib.Core.Bool.{Bool, true, false}
 use lib.ListN.{length}
 use lib.Dec.{ltb, leb, eqb}
 use borrow.Author.Tests.{ltb-true, leb-true, eqb-true, lt-ltb, le-leb, eq-eqb}
-use Rattle.wire.specs.Wire.{vint, vlen}
+use Rattle.wire.specs.Wire.{vint, vlen, v32}
 use Rattle.tree.specs.Rules.{ruleOf}
-use Rattle.tree.specs.Tree.{among, Content, cInt, cRaw, cMsg, Tree, done, int, raw, sub}
+use Rattle.tree.specs.Tree.{among, Content, cInt, cRaw, cFix, cMsg, Tree, done, int, raw, fix, sub}
 use Rattle.encoding.specs.Basics.{never}
-use Rattle.encoding.specs.Encode.{encode, FieldNumber, says, FitsAfter, ends, ints, raws, subs}
+use Rattle.encoding.specs.Encode.{encode, FieldNumber, says, FitsAfter, ends, ints, raws, fixs, subs}
 use Rattle.encoding.specs.Depth.{says-message}
-use Rattle.encoding.specs.FitsTest.{both, isFieldNumber, equal, saysInt, saysRaw, saysMessage, isFit}
+use Rattle.encoding.specs.FitsTest.{both, isFieldNumber, equal, saysInt, saysRaw, saysFix, saysMessage, isFit}
 use Rattle.tree.specs.declared.Kind.{Kind}
 
 both-true : (s t : Bool) → both s t ≡ true → (s ≡ true) × (t ≡ true)
@@ -44,18 +44,28 @@ int-true : (o : Option Content) (v : ℕ) → saysInt o v ≡ true → o ≡ som
 int-true none v h = never (cc)
 int-true (some (cInt w)) v h = ap (λ n. some (cInt n)) (eqb-true w v h)
 int-true (some (cRaw b)) v h = never (cc)
+int-true (some (cFix b)) v h = never (cc)
 int-true (some (cMsg k b)) v h = never (cc)
 
 raw-true : (o : Option Content) (b : List ℕ) → saysRaw o b ≡ true → o ≡ some (cRaw b)
 raw-true none b h = never (cc)
 raw-true (some (cInt w)) b h = never (cc)
 raw-true (some (cRaw c)) b h = ap (λ l. some (cRaw l)) (equal-true c b h)
+raw-true (some (cFix c)) b h = never (cc)
 raw-true (some (cMsg k c)) b h = never (cc)
+
+fix-true : (o : Option Content) (b : List ℕ) → saysFix o b ≡ true → o ≡ some (cFix b)
+fix-true none b h = never (cc)
+fix-true (some (cInt w)) b h = never (cc)
+fix-true (some (cRaw c)) b h = never (cc)
+fix-true (some (cFix c)) b h = ap (λ l. some (cFix l)) (equal-true c b h)
+fix-true (some (cMsg k c)) b h = never (cc)
 
 message-true : (o : Option Content) (test : Kind → Bool) → saysMessage o test ≡ true → (k : Kind) × (c : List ℕ) × (o ≡ some (cMsg k c)) × (test k ≡ true)
 message-true none test h = never (cc)
 message-true (some (cInt w)) test h = never (cc)
 message-true (some (cRaw c)) test h = never (cc)
+message-true (some (cFix c)) test h = never (cc)
 message-true (some (cMsg k c)) test h = (k, c, refl, h)
 
 pub test-fits : (k : Kind) (ns : List ℕ) (t : Tree) → isFit k ns t ≡ true → FitsAfter k ns t
@@ -71,6 +81,11 @@ test-fits k ns (raw n r t) h =
     let b = both-true (ltb (length r) (2 ^ 64)) _ (a .1) in
     let c = both-true (saysRaw (says (ruleOf k n) (among n ns) (vlen r)) r) (isFit k (n ∷ ns) t) (b .1) in
     raws (is-number n (a .0)) (ltb-true (length r) (2 ^ 64) (b .0)) (raw-true _ r (c .0)) (test-fits k (n ∷ ns) t (c .1))
+test-fits k ns (fix n r t) h =
+    let a = both-true (isFieldNumber n) _ h in
+    let b = both-true (eqb (length r) 4) _ (a .1) in
+    let c = both-true (saysFix (says (ruleOf k n) (among n ns) (v32 r)) r) (isFit k (n ∷ ns) t) (b .1) in
+    fixs (is-number n (a .0)) (eqb-true (length r) 4 (b .0)) (fix-true _ r (c .0)) (test-fits k (n ∷ ns) t (c .1))
 test-fits k ns (sub n s t) h =
     let o = says (ruleOf k n) (among n ns) (vlen (encode s)) in
     let a = both-true (isFieldNumber n) _ h in
@@ -86,4 +101,5 @@ unfolding isFit
 fits-test ends = refl
 fits-test (ints {n = n} {v = v} h l g r) = rw (number-is n h, lt-ltb v (2 ^ 64) l, g, eq-eqb v v refl) (fits-test r)
 fits-test (raws {n = n} {b = b} h l g r) = rw (number-is n h, lt-ltb (length b) (2 ^ 64) l, g, equal-same b) (fits-test r)
+fits-test (fixs {n = n} {b = b} h l g r) = rw (number-is n h, eq-eqb (length b) 4 l, g, equal-same b) (fits-test r)
 fits-test (subs {n = n} {s = s} k' h l g q r) = rw (number-is n h, lt-ltb (length (encode s)) (2 ^ 64) l, g, fits-test q) (fits-test r)

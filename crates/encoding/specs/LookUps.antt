@@ -1,13 +1,13 @@
 -- What the look-ups find in a tree with optional and repeated fields.
 use Prim.Native.Nat.{ℕ, zero, suc}
-use mathlib.Core.Path.{_≡_, refl, ap}
+use mathlib.Core.Path.{_≡_, refl, ap, _∙_}
 use mathlib.Core.List.{List, [], _∷_, _++_}
 use mathlib.Core.Option.{Option, none, some}
 use mathlib.Core.Bool.{false}
 use lib.Dec.{eqb}
 use borrow.Author.Tests.{eq-eqb}
-use Rattle.tree.specs.Tree.{Tree, int, raw, later, intAt, rawAt, subAt, rawsAt}
-use Rattle.encoding.specs.Encode.{intO, intIf, rawIf, each}
+use Rattle.tree.specs.Tree.{Tree, int, raw, sub, later, intAt, rawAt, fixAt, joinO, subAt, rawsAt, consIf, subsAt}
+use Rattle.encoding.specs.Encode.{intO, intIf, rawIf, fixO, each, subO, eachSub}
 
 -- what is absent has this value: document 01, "Absent bytes are empty, flags false, clusterVersion and offset 0"
 abbrev pub orElse : {A : Type 0} → A → Option A → A
@@ -45,6 +45,21 @@ pub each-here : (n : ℕ) (bs : List (List ℕ)) (t : Tree) → rawsAt n (each n
 unfolding each
 each-here n [] t = refl
 each-here n (b ∷ bs) t = rw (eq-eqb n n refl) (ap (λ l. b ∷ l) (each-here n bs t))
+
+pub fixO-here : (n : ℕ) (o : Option (List ℕ)) (t : Tree) → fixAt n t ≡ none → fixAt n (fixO n o t) ≡ o
+unfolding fixO
+fixO-here n none t h = h
+fixO-here n (some b) t h = rw (h, eq-eqb n n refl)
+
+pub subO-here : (n : ℕ) (o : Option Tree) (t : Tree) → subAt n t ≡ none → subAt n (subO n o t) ≡ o
+unfolding subO
+subO-here n none t h = h
+subO-here n (some s) t h = rw (h, eq-eqb n n refl)
+
+pub eachSub-here : (n : ℕ) (ss : List Tree) (t : Tree) → subsAt n (eachSub n ss t) ≡ ss ++ subsAt n t
+unfolding eachSub
+eachSub-here n [] t = refl
+eachSub-here n (s ∷ ss) t = rw (eq-eqb n n refl) (ap (λ l. s ∷ l) (eachSub-here n ss t))
 
 -- a field of another number, or of another sort, is passed over ---------------------------
 
@@ -109,3 +124,28 @@ module _ (n m : ℕ) where
   unfolding each
   sub-each [] t = refl
   sub-each (b ∷ bs) t = sub-each bs t
+
+  pub raw-fixO : (o : Option (List ℕ)) (t : Tree) → rawAt n (fixO m o t) ≡ rawAt n t
+  unfolding fixO
+  raw-fixO none t = refl
+  raw-fixO (some b) t = refl
+
+  pub sub-subO : (o : Option Tree) (t : Tree) → eqb n m ≡ false → subAt n (subO m o t) ≡ subAt n t
+  unfolding subO
+  sub-subO none t e = refl
+  sub-subO (some s) t e = ap (λ b. joinO b s (subAt n t)) e
+
+  pub subs-subO : (o : Option Tree) (t : Tree) → eqb n m ≡ false → subsAt n (subO m o t) ≡ subsAt n t
+  unfolding subO
+  subs-subO none t e = refl
+  subs-subO (some s) t e = ap (λ b. consIf b s (subsAt n t)) e
+
+  pub sub-eachSub : (ss : List Tree) (t : Tree) → eqb n m ≡ false → subAt n (eachSub m ss t) ≡ subAt n t
+  unfolding eachSub
+  sub-eachSub [] t e = refl
+  sub-eachSub (s ∷ ss) t e = ap (λ b. joinO b s (subAt n (eachSub m ss t))) e ∙ sub-eachSub ss t e
+
+  pub subs-eachSub : (ss : List Tree) (t : Tree) → eqb n m ≡ false → subsAt n (eachSub m ss t) ≡ subsAt n t
+  unfolding eachSub
+  subs-eachSub [] t e = refl
+  subs-eachSub (s ∷ ss) t e = ap (λ b. consIf b s (subsAt n (eachSub m ss t))) e ∙ subs-eachSub ss t e

@@ -2,10 +2,11 @@
 ghost use Prim.Native.Nat.{_+_, _^_, _<_, _≤_};
 ghost use lib.ListN.{length};
 ghost use Rattle.tree.specs.Tree.{done};
-ghost use Rattle.encoding.specs.Encode.{tag, intField, head, lenField, encode, intO, intIf, rawIf};
+ghost use Rattle.encoding.specs.Encode.{tag, intField, head, lenField, floatBytes, fixField, encode, intO, intIf, rawIf};
 ghost use Rattle.writers.specs.Pushed.{Pushed, maybe};
 use writers::Maybe;
 use writers::push_bytes;
+use writers::push_le32;
 use writers::push_varint;
 
 // A tag: field number and wire type.
@@ -41,6 +42,15 @@ pub fn push_raw(out: &mut [u8], at: usize, n: u64, src: &[u8]) -> usize
 {
     let a = push_bytes(out, at, src);
     push_head(out, a, n, src.len())
+}
+
+// Field `n`, a float by its 32 bits.
+pub fn push_float(out: &mut [u8], at: usize, n: u64, bits: u32) -> usize
+    requires { ⌜ (n < 2 ^ 29) × (9 ≤ at) × (at ≤ length (now out)) ⌝ }
+    ensures { λ r. ⌜ Pushed r at (fixField n (floatBytes bits)) (now (out .entry)) (now (out .exit)) × (at ≤ r + 9) ⌝ }
+{
+    let a = push_le32(out, at, bits);
+    push_tag(out, a, n, 5)
 }
 
 // Field `n`, a number if there is one.

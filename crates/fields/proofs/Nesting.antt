@@ -12,7 +12,7 @@ use Rattle.wire.specs.Wire.{Value, Field, field, readField, fieldsOf}
 use Rattle.wire.specs.FieldAnswer.{meansFound, endsFound, nextIn}
 use Rattle.wire.specs.declared.field.Found.{Found}
 use Rattle.tree.specs.Rules.{ruleOf, strictOf}
-use Rattle.tree.specs.Tree.{mapO, thenO, isSome, Content, cInt, cRaw, cMsg, Item, item, decode, find, add, byRule, step, items, itemsO, level}
+use Rattle.tree.specs.Tree.{mapO, thenO, isSome, Content, cInt, cRaw, cFix, cMsg, Item, item, decode, find, add, byRule, step, items, itemsO, level}
 use Rattle.tree.specs.Tree.{Tree, sub, openOne, openAll, listed}
 use Rattle.tree.specs.Depth.{listed-opens}
 use Rattle.fields.specs.Judged.{meansTaken, insideTaken, Marks, Takes, Judges}
@@ -21,7 +21,7 @@ use Rattle.tree.specs.declared.Kind.{Kind}
 use Rattle.tree.specs.declared.Rule.{Rule}
 use Rattle.tree.specs.declared.Rule.the-variants.{Unlisted, Refused, Single, Repeated}
 use Rattle.fields.specs.declared.judge.Taken.{Taken}
-use Rattle.fields.specs.declared.judge.Taken.the-variants.{Number, Slice, Inside, Wrong}
+use Rattle.fields.specs.declared.judge.Taken.the-variants.{Number, Slice, Fixed, Inside, Wrong}
 use Rattle.fields.specs.declared.judge.Judged.{Judged}
 use Rattle.fields.specs.declared.judge.Judged.the-variants.{Refuse, Skip, Take}
 use Rattle.fields.proofs.Storing.{no-marks}
@@ -31,6 +31,7 @@ use Rattle.fields.proofs.Walking.{Walk, walk-start, walk-end, walk-none
 abbrev OpenC : Content → Type 0
 OpenC (cInt v) = Unit {0}
 OpenC (cRaw b) = Unit {0}
+OpenC (cFix b) = Unit {0}
 OpenC (cMsg k b) = isSome (listed k b) ≡ true
 
 abbrev pub AllOpen : List Item → Type 0
@@ -48,6 +49,7 @@ map-some f (some a) e = refl
 open-one : (n : ℕ) (c : Content) (t : Tree) → OpenC c → isSome (openOne (λ k b. listed k b) n c t) ≡ true
 open-one n (cInt v) t h = refl
 open-one n (cRaw b) t h = refl
+open-one n (cFix b) t h = refl
 open-one n (cMsg k b) t h = map-some _ (listed k b) h
 
 then-true : (o : Option Tree) (g : Tree → Option Tree) → isSome o ≡ true → ((t : Tree) → isSome (g t) ≡ true) → isSome (thenO o g) ≡ true
@@ -174,6 +176,7 @@ module _ (k : Kind) (s : List ℕ) (seen at : ℕ) (g : Reading k s seen at) (l 
           go : (v : Taken) → w ≡ v → opensTaken s v ≡ true → Reading k s x next
           go (Number v) r o = more (cInt v) (ap (meansTaken s) r) tt
           go (Slice a c) r o = more (cRaw (take c (drop a s))) (ap (meansTaken s) r) tt
+          go (Fixed a) r o = more (cFix (take 4 (drop a s))) (ap (meansTaken s) r) tt
           go (Inside j a c) r o = more (cMsg j (take c (drop a s))) (ap (meansTaken s) r) o
           go Wrong r o = let z : _≡_ {A = ℕ} 0 1 = cc (o) in absurd (omega arith)
 
@@ -183,6 +186,7 @@ module _ (k : Kind) (s : List ℕ) (seen at : ℕ) (g : Reading k s seen at) (l 
           go : (v : Taken) → w ≡ v → opensTaken s v ≡ false → false ≡ isSome (listed k s)
           go (Number v) r o = let z : _≡_ {A = ℕ} 0 1 = cc (o) in absurd (omega arith)
           go (Slice a c) r o = let z : _≡_ {A = ℕ} 0 1 = cc (o) in absurd (omega arith)
+          go (Fixed a) r o = let z : _≡_ {A = ℕ} 0 1 = cc (o) in absurd (omega arith)
           go (Inside j a c) r o =
               let x = walk-on k s at (g .found) (g .walk) l f m e next p n _ (taken .adds ∙ ap (λ v. add i (g .found) (meansTaken s v)) r) in
               let h : ShutO (level k s) = subst (λ (o : Option (List Item)). ShutO o) (sym (x .rest))

@@ -14,12 +14,12 @@ use Rattle.wire.specs.Wire.{readField}
 use Rattle.wire.specs.FieldAnswer.{meansFound, endsFound, nextIn}
 use Rattle.wire.specs.declared.field.Found.{Found}
 use Rattle.tree.specs.Rules.{ruleOf}
-use Rattle.tree.specs.Tree.{Content, cInt, cRaw, cMsg, Item, item, find, add, level}
+use Rattle.tree.specs.Tree.{Content, cInt, cRaw, cFix, cMsg, Item, item, find, add, level}
 use Rattle.fields.specs.Judged.{meansTaken, insideTaken, isSingle, Marks, Takes, Judges}
 use Rattle.fields.specs.Slots.{Sized, placeOf, Shows, Holds, Tells}
 use Rattle.tree.specs.declared.Kind.{Kind}
 use Rattle.fields.specs.declared.judge.Taken.{Taken}
-use Rattle.fields.specs.declared.judge.Taken.the-variants.{Number, Slice, Inside, Wrong}
+use Rattle.fields.specs.declared.judge.Taken.the-variants.{Number, Slice, Fixed, Inside, Wrong}
 use Rattle.fields.specs.declared.judge.Judged.{Judged}
 use Rattle.fields.specs.declared.judge.Judged.the-variants.{Refuse, Skip, Take}
 use Rattle.fields.specs.declared.slots.Place.{Place}
@@ -83,12 +83,14 @@ data Placed (s : List ℕ) (w : Taken) (a b : ℕ) : Type 0 where
 place-shows : (s : List ℕ) (w : Taken) → insideTaken s w → placeOf w .ok ≡ true → Placed s w (placeOf w .value) (placeOf w .len)
 place-shows s (Number v) i o = placed (cInt v) refl refl
 place-shows s (Slice a b) i o = placed (cRaw (take b (drop a s))) refl (refl, i)
+place-shows s (Fixed a) i o = placed (cFix (take 4 (drop a s))) refl (refl, i)
 place-shows s (Inside k a b) i o = placed (cMsg k (take b (drop a s))) refl (refl, i .0)
 place-shows s Wrong i o = let z : _≡_ {A = ℕ} 0 1 = cc in absurd (omega arith)
 
 place-wrong : (s : List ℕ) (w : Taken) → placeOf w .ok ≡ false → meansTaken s w ≡ none
 place-wrong s (Number v) o = let z : _≡_ {A = ℕ} 0 1 = cc in absurd (omega arith)
 place-wrong s (Slice a b) o = let z : _≡_ {A = ℕ} 0 1 = cc in absurd (omega arith)
+place-wrong s (Fixed a) o = let z : _≡_ {A = ℕ} 0 1 = cc in absurd (omega arith)
 place-wrong s (Inside k a b) o = let z : _≡_ {A = ℕ} 0 1 = cc in absurd (omega arith)
 place-wrong s Wrong o = refl
 

@@ -11,18 +11,21 @@ use Rattle.wire.specs.Wire.{Field, field}
 use Rattle.wire.specs.FieldAnswer.{numberIn, valueIn}
 use Rattle.wire.specs.declared.field.Found.{Found}
 use Rattle.tree.specs.Rules.{strictOf, ruleOf}
-use Rattle.tree.specs.Tree.{isSome, Content, cInt, cRaw, cMsg, Item, item, find, add, step}
+use Rattle.tree.specs.Tree.{isSome, Content, cInt, cRaw, cFix, cMsg, Item, item, find, add, step}
 use Rattle.tree.specs.declared.Kind.{Kind}
 use Rattle.tree.specs.declared.Rule.{Rule}
 use Rattle.tree.specs.declared.Rule.the-variants.{Unlisted, Refused, Single, Repeated}
 use Rattle.fields.specs.declared.judge.Taken.{Taken}
-use Rattle.fields.specs.declared.judge.Taken.the-variants.{Number, Slice, Inside, Wrong}
+use Rattle.fields.specs.declared.judge.Taken.the-variants.{Number, Slice, Fixed, Inside, Wrong}
+use Rattle.fields.specs.declared.judge.Listed.{Listed}
+use Rattle.fields.specs.declared.judge.Listed.the-variants.{Not, Never, As}
 use Rattle.fields.specs.declared.judge.Judged.{Judged}
 use Rattle.fields.specs.declared.judge.Judged.the-variants.{Refuse, Skip, Take}
 
 abbrev pub meansTaken : List ℕ → Taken → Option Content
 meansTaken s (Number v) = some (cInt v)
 meansTaken s (Slice start len) = some (cRaw (take len (drop start s)))
+meansTaken s (Fixed start) = some (cFix (take 4 (drop start s)))
 meansTaken s (Inside k start len) = some (cMsg k (take len (drop start s)))
 meansTaken s Wrong = none
 
@@ -30,6 +33,7 @@ meansTaken s Wrong = none
 abbrev pub insideTaken : List ℕ → Taken → Type 0
 insideTaken s (Number v) = Unit {0}
 insideTaken s (Slice start len) = start + len ≤ length s
+insideTaken s (Fixed start) = start + 4 ≤ length s
 insideTaken s (Inside k start len) = (start + len ≤ length s) × (len < length s)
 insideTaken s Wrong = Unit {0}
 
@@ -47,6 +51,13 @@ isSingle (Repeated f) = false
 pub record Marks (k : Kind) (seen : ℕ) (is : List Item) : Type 0 where
   pub small : seen < 65536
   pub marks : (n : ℕ) → isSingle (ruleOf k n) ≡ true → bit seen n ≡ isSome (find n is)
+
+-- what a rule says of the number n, after the marks; "a singular listed field twice in one message [is] refused"
+abbrev pub listedBy : Rule → ℕ → ℕ → Listed
+listedBy Unlisted seen n = Not
+listedBy Refused seen n = Never
+listedBy (Single f) seen n = choose (bit seen n) Never (As f (seen + 2 ^ n))
+listedBy (Repeated f) seen n = As f seen
 
 abbrev pub unlistedOf : Kind → Judged
 unlistedOf k = choose (strictOf k) Refuse Skip

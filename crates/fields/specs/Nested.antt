@@ -5,10 +5,11 @@ use mathlib.Core.Bool.{Bool, true, false}
 use lib.ListN.{take, drop}
 use Rattle.tree.specs.Tree.{isSome, listed}
 use Rattle.fields.specs.declared.judge.Taken.{Taken}
-use Rattle.fields.specs.declared.judge.Taken.the-variants.{Number, Slice, Inside, Wrong}
+use Rattle.fields.specs.declared.judge.Taken.the-variants.{Number, Slice, Fixed, Inside, Wrong}
 
 abbrev pub opensTaken : List ℕ → Taken → Bool
 opensTaken s (Number v) = true
 opensTaken s (Slice start len) = true
+opensTaken s (Fixed start) = true
 opensTaken s (Inside k start len) = isSome (listed k (take len (drop start s)))
 opensTaken s Wrong = false

@@ -6,11 +6,11 @@ use mathlib.Core.Option.{Option, none, some}
 use mathlib.Core.Bool.{true, false}
 use lib.ListN.{length, take, drop, getD}
 use Rattle.tree.specs.Rules.{ruleOf}
-use Rattle.tree.specs.Tree.{Content, cInt, cRaw, cMsg, Item, find}
+use Rattle.tree.specs.Tree.{Content, cInt, cRaw, cFix, cMsg, Item, find}
 use Rattle.fields.specs.Judged.{isSingle, Marks}
 use Rattle.tree.specs.declared.Kind.{Kind}
 use Rattle.fields.specs.declared.judge.Taken.{Taken}
-use Rattle.fields.specs.declared.judge.Taken.the-variants.{Number, Slice, Inside, Wrong}
+use Rattle.fields.specs.declared.judge.Taken.the-variants.{Number, Slice, Fixed, Inside, Wrong}
 use Rattle.fields.specs.declared.slots.Place.{Place}
 use Rattle.fields.specs.declared.slots.Slots.{Slots}
 
@@ -23,6 +23,7 @@ pub record Sized (t : Slots) : Type 0 where
 abbrev pub placeOf : Taken → Place
 placeOf (Number v) = record { ok = true; value = v; len = 0 }
 placeOf (Slice start len) = record { ok = true; value = start; len = len }
+placeOf (Fixed start) = record { ok = true; value = start; len = 4 }
 placeOf (Inside k start len) = record { ok = true; value = start; len = len }
 placeOf Wrong = record { ok = false; value = 0; len = 0 }
 
@@ -30,6 +31,7 @@ placeOf Wrong = record { ok = false; value = 0; len = 0 }
 abbrev pub Shows : List ℕ → ℕ → ℕ → Content → Type 0
 Shows s a b (cInt v) = a ≡ v
 Shows s a b (cRaw x) = (take b (drop a s) ≡ x) × (a + b ≤ length s)
+Shows s a b (cFix x) = (take b (drop a s) ≡ x) × (a + b ≤ length s)
 Shows s a b (cMsg k x) = (take b (drop a s) ≡ x) × (a + b ≤ length s)
 
 -- the slots show the singular items

@@ -4,8 +4,9 @@ ghost use mathlib.Core.List.{List};
 ghost use Prim.Native.Nat.{ℕ, _+_, _^_, _≤_, _<_};
 ghost use lib.ListN.{length, take, drop};
 ghost use Rattle.wire.specs.FieldAnswer.{endsFound, valueIn};
-ghost use Rattle.tree.specs.Tree.{Item, ofInt, ofBytes, decode};
-ghost use Rattle.fields.specs.Judged.{meansTaken, insideTaken, bit, unlistedOf, Marks, Judges};
+ghost use Rattle.tree.specs.Tree.{Item, ofInt, ofBytes, ofFixed, decode};
+ghost use mathlib.Core.Bool.{true};
+ghost use Rattle.fields.specs.Judged.{meansTaken, insideTaken, bit, isSingle, listedBy, unlistedOf, Marks, Judges};
 use table::named;
 use table::rule_of;
 use table::strict;
@@ -15,12 +16,15 @@ use tree::Rule;
 use wire::field::Found;
 use wire::field::number_of;
 
-// What a field holds, as its form reads it: a number, bytes, a message of a kind; or it is refused.
+// What a field holds, as its form reads it: a number, bytes, the four bytes of a float, a message of a kind; or it is refused.
 pub enum Taken {
     Number(u64),
     Slice {
         start: usize,
         len: usize,
+    },
+    Fixed {
+        start: usize,
     },
     Inside {
         kind: Kind,
@@ -28,6 +32,13 @@ pub enum Taken {
         len: usize,
     },
     Wrong,
+}
+
+// A number that is not listed; one that is refused; or how its field is read, with the marks of the singular numbers up to it.
+pub enum Listed {
+    Not,
+    Never,
+    As { form: Form, seen: u64 },
 }
 
 // Refused; skipped; or a listed field, with the marks of the singular numbers up to it.
@@ -70,6 +81,7 @@ fn take_int(f: Form, v: u64) -> Taken
         }
         Form::Bytes => Taken::Wrong,
         Form::Opaque => Taken::Wrong,
+        Form::Float => Taken::Wrong,
         Form::Nested(_) => Taken::Wrong,
     }
 }
@@ -84,11 +96,27 @@ fn take_bytes(f: Form, start: usize, len: usize) -> Taken
         Form::Flag => Taken::Wrong,
         Form::Bytes => Taken::Slice { start, len },
         Form::Opaque => Taken::Slice { start: 0, len: 0 },
+        Form::Float => Taken::Wrong,
         Form::Nested(k) => Taken::Inside {
             kind: k,
             start,
             len,
         },
+    }
+}
+
+fn take_fixed(f: Form, start: usize) -> Taken
+    ensures { λ r. ⌜ ((s : List ℕ) → meansTaken s r ≡ ofFixed f (take 4 (drop start s))) × ((s : List ℕ) → start + 4 ≤ length s → insideTaken s r) ⌝ }
+{
+    match f {
+        Form::Int64 => Taken::Wrong,
+        Form::Int32 => Taken::Wrong,
+        Form::Named(_) => Taken::Wrong,
+        Form::Flag => Taken::Wrong,
+        Form::Bytes => Taken::Wrong,
+        Form::Opaque => Taken::Wrong,
+        Form::Float => Taken::Fixed { start },
+        Form::Nested(_) => Taken::Wrong,
     }
 }
 
@@ -114,9 +142,9 @@ fn take_value(form: Form, f: Found) -> Taken
         } => Taken::Wrong,
         Found::I32 {
             number: _,
-            start: _,
+            start,
             next: _,
-        } => Taken::Wrong,
+        } => take_fixed(form, start),
         Found::NoField => Taken::Wrong,
     }
 }
@@ -145,28 +173,39 @@ fn unlisted(kind: Kind) -> Judged
     Judged::Skip
 }
 
-// A field after those whose singular numbers are marked in `seen`.
+// What the table's rule says of number n, after those whose singular numbers are marked in `seen`.
+fn by_rule(r: Rule, seen: u64, n: u64) -> Listed
+    requires { ⌜ (seen < 65536) × (isSingle r ≡ true → n < 16) ⌝ }
+    ensures { λ x. ⌜ x ≡ listedBy r seen n ⌝ }
+{
+    match r {
+        Rule::Unlisted => Listed::Not,
+        Rule::Refused => Listed::Never,
+        Rule::Single(form) => {
+            if marked(seen, n) {
+                return Listed::Never;
+            }
+            Listed::As {
+                form,
+                seen: mark(seen, n),
+            }
+        }
+        Rule::Repeated(form) => Listed::As { form, seen },
+    }
+}
+
+// A field after those whose singular numbers are marked in `seen`. What it holds is read in one place, so that the compiler does so here.
 pub fn judge(kind: Kind, seen: u64, f: Found) -> Judged
     requires { ⌜ seen < 65536 ⌝ }
     ensures { λ r. ⌜ ((s : List ℕ) (at : ℕ) (is : List Item) → endsFound s at f → Marks kind seen is → Judges s kind is f r) ⌝ }
 {
     let n = number_of(f);
-    match rule_of(kind, n) {
-        Rule::Unlisted => unlisted(kind),
-        Rule::Refused => Judged::Refuse,
-        Rule::Single(form) => {
-            if marked(seen, n) {
-                return Judged::Refuse;
-            }
-            Judged::Take {
-                number: n as usize,
-                seen: mark(seen, n),
-                what: take_value(form, f),
-            }
-        }
-        Rule::Repeated(form) => Judged::Take {
+    match by_rule(rule_of(kind, n), seen, n) {
+        Listed::Not => unlisted(kind),
+        Listed::Never => Judged::Refuse,
+        Listed::As { form, seen: after } => Judged::Take {
             number: n as usize,
-            seen,
+            seen: after,
             what: take_value(form, f),
         },
     }

@@ -51,6 +51,7 @@ fn opens(s: &[u8], what: Taken) -> bool
     match what {
         Taken::Number(_) => true,
         Taken::Slice { start: _, len: _ } => true,
+        Taken::Fixed { start: _ } => true,
         Taken::Inside { kind, start, len } => {
             let end = start + len;
             reads(&s[start..end], kind)

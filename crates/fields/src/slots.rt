@@ -39,6 +39,11 @@ fn place_of(w: Taken) -> Place
             value: start as u64,
             len,
         },
+        Taken::Fixed { start } => Place {
+            ok: true,
+            value: start as u64,
+            len: 4,
+        },
         Taken::Inside {
             kind: _,
             start,

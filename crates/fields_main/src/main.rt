@@ -66,6 +66,11 @@ fn show_plain(s: &[u8], number: usize, what: Taken) {
             show_bytes(part(s, start, len));
             write(b";");
         }
+        Taken::Fixed { start } => {
+            write(b"#");
+            show_bytes(part(s, start, 4));
+            write(b";");
+        }
         Taken::Inside {
             kind: _,
             start: _,

@@ -4,7 +4,7 @@ use Prim.Native.Nat.{ℕ}
 use Rattle.connections.specs.Means.{connectionOf}
 use Rattle.connection_bytes.specs.Layout.{becomes}
 use Rattle.responses.specs.declared.Response.{Response}
-use Rattle.responses.specs.declared.Response.the-variants.{OutShort, StoreBad, DeviceBad, Closed, More, Answered}
+use Rattle.responses.specs.declared.Response.the-variants.{OutShort, StoreBad, DeviceBad, Closed, More, ReadingsBad, Answered}
 
 pub record Noted : Type 0 where
   pub number : ℕ
@@ -20,4 +20,5 @@ notes connection counts StoreBad = noted 2 connection counts
 notes connection counts DeviceBad = noted 3 connection counts
 notes connection counts Closed = noted 4 connection counts
 notes connection counts More = noted 5 connection counts
+notes connection counts ReadingsBad = noted 7 connection counts
 notes connection counts (Answered written taken c) = noted 0 (becomes connection (connectionOf c)) (taken ∷ written ∷ [])

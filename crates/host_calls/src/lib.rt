@@ -41,6 +41,7 @@ pub fn note(connection: &mut Bytes, counts: &mut [u64; 2], r: Response) -> u32
         Response::DeviceBad => 3,
         Response::Closed => 4,
         Response::More => 5,
+        Response::ReadingsBad => 7,
         Response::Answered {
             written,
             taken,

@@ -10,12 +10,12 @@ use lib.ListN.{length, take, drop, getD, length-take, length-drop}
 use lib.Seq.{drop-drop, take-length}
 use Rattle.wire.specs.Wire.{Value, vint, v64, vlen, v32, fieldsOf, fieldsIn}
 use Rattle.tree.specs.Rules.{namesOf, ruleOf}
-use Rattle.tree.specs.Tree.{mapO, guard, isSome, among, Content, cInt, cRaw, cMsg, Item, isInt32, ofInt, decode, find, items, level, Tree, done, openAll, listedIn, listed, intAt, rawAt, subAt}
+use Rattle.tree.specs.Tree.{mapO, guard, isSome, among, Content, cInt, cRaw, cMsg, Item, isInt32, ofInt, ofBytes, ofFixed, decode, find, items, level, Tree, done, openAll, listedIn, listed, intAt, rawAt, subAt}
 use Rattle.fields.specs.Judged.{bit, isSingle}
 use Rattle.fields.specs.Slots.{Sized, Holds, Tells, Shows}
 use Rattle.tree.specs.declared.Kind.{Kind}
 use Rattle.tree.specs.declared.Form.{Form}
-use Rattle.tree.specs.declared.Form.the-variants.{Int64, Int32, Named, Flag, Bytes, Opaque, Nested}
+use Rattle.tree.specs.declared.Form.the-variants.{Int64, Int32, Named, Flag, Bytes, Opaque, Float, Nested}
 use Rattle.tree.specs.declared.Rule.{Rule}
 use Rattle.tree.specs.declared.Rule.the-variants.{Unlisted, Refused, Single, Repeated}
 use Rattle.fields.specs.declared.slots.Slots.{Slots}
@@ -31,21 +31,22 @@ guard-int false v c e = nothing-some e
 abbrev Numeric : Form → Type 0
 Numeric f = (v : Value) (c : Content) → decode f v ≡ some c → (x : ℕ) × (c ≡ cInt x)
 
-numeric : (f : Form) → ((v : ℕ) (c : Content) → ofInt f v ≡ some c → (x : ℕ) × (c ≡ cInt x)) → ((b : List ℕ) (c : Content) → decode f (vlen b) ≡ some c → (x : ℕ) × (c ≡ cInt x)) → Numeric f
-numeric f h g (vint v) c e = h v c e
-numeric f h g (v64 b) c e = nothing-some e
-numeric f h g (vlen b) c e = g b c e
-numeric f h g (v32 b) c e = nothing-some e
+numeric : (f : Form) → ((v : ℕ) (c : Content) → ofInt f v ≡ some c → (x : ℕ) × (c ≡ cInt x)) → ((b : List ℕ) → ofBytes f b ≡ none) → ((b : List ℕ) → ofFixed f b ≡ none) → Numeric f
+numeric f h g i (vint v) c e = h v c e
+numeric f h g i (v64 b) c e = nothing-some e
+numeric f h g i (vlen b) c e = nothing-some (sym (g b) ∙ e)
+numeric f h g i (v32 b) c e = nothing-some (sym (i b) ∙ e)
 
 number-form : (r : Rule) → isNumber r ≡ true → (f : Form) × (r ≡ Single f) × Numeric f
 number-form Unlisted e = let z : _≡_ {A = ℕ} 0 1 = cc in absurd (omega arith)
 number-form Refused e = let z : _≡_ {A = ℕ} 0 1 = cc in absurd (omega arith)
-number-form (Single Int64) e = (Int64, refl, numeric Int64 (λ v c q. guard-int true v c q) (λ b c q. nothing-some q))
-number-form (Single Int32) e = (Int32, refl, numeric Int32 (λ v c q. guard-int (isInt32 v) v c q) (λ b c q. nothing-some q))
-number-form (Single (Named x)) e = (Named x, refl, numeric (Named x) (λ v c q. guard-int (among v (namesOf x)) v c q) (λ b c q. nothing-some q))
-number-form (Single Flag) e = (Flag, refl, numeric Flag (λ v c q. guard-int true _ c q) (λ b c q. nothing-some q))
+number-form (Single Int64) e = (Int64, refl, numeric Int64 (λ v c q. guard-int true v c q) (λ b. refl) (λ b. refl))
+number-form (Single Int32) e = (Int32, refl, numeric Int32 (λ v c q. guard-int (isInt32 v) v c q) (λ b. refl) (λ b. refl))
+number-form (Single (Named x)) e = (Named x, refl, numeric (Named x) (λ v c q. guard-int (among v (namesOf x)) v c q) (λ b. refl) (λ b. refl))
+number-form (Single Flag) e = (Flag, refl, numeric Flag (λ v c q. guard-int true _ c q) (λ b. refl) (λ b. refl))
 number-form (Single Bytes) e = let z : _≡_ {A = ℕ} 0 1 = cc in absurd (omega arith)
 number-form (Single Opaque) e = let z : _≡_ {A = ℕ} 0 1 = cc in absurd (omega arith)
+number-form (Single Float) e = let z : _≡_ {A = ℕ} 0 1 = cc in absurd (omega arith)
 number-form (Single (Nested k)) e = let z : _≡_ {A = ℕ} 0 1 = cc in absurd (omega arith)
 number-form (Repeated f) e = let z : _≡_ {A = ℕ} 0 1 = cc in absurd (omega arith)
 
@@ -228,6 +229,7 @@ isPart (Single (Named e)) = false
 isPart (Single Flag) = false
 isPart (Single Bytes) = true
 isPart (Single Opaque) = true
+isPart (Single Float) = false
 isPart (Single (Nested k)) = true
 isPart (Repeated f) = false
 
@@ -267,6 +269,7 @@ module _ (k : Kind) (m : List ℕ) (t : Slots) (y : Level k m t) (n : ℕ) where
       go (Single Flag) q e = no e
       go (Single Bytes) q e = slot-raw Bytes q raw-of
       go (Single Opaque) q e = slot-raw Opaque q opaque-of
+      go (Single Float) q e = no e
       go (Single (Nested k')) q e = slot-message k' q
       go (Repeated f) q e = no e
 

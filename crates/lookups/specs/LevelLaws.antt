@@ -10,8 +10,8 @@ use borrow.Author.Tests.{eqb-true}
 use Rattle.wire.specs.Reader.{choose}
 use Rattle.wire.specs.Wire.{Value, Field, field, fieldsOf}
 use Rattle.tree.specs.Rules.{ruleOf, strictOf}
-use Rattle.tree.specs.Tree.{mapO, thenO, guard, isSome, Content, cInt, cRaw, cMsg, Item, item, decode, find, add, byRule, step, items, itemsO, level}
-use Rattle.tree.specs.Tree.{Tree, done, int, raw, sub, openOne, openAll, listed, later, intAt, rawAt, joinO, subAt}
+use Rattle.tree.specs.Tree.{mapO, thenO, guard, isSome, Content, cInt, cRaw, cFix, cMsg, Item, item, decode, find, add, byRule, step, items, itemsO, level}
+use Rattle.tree.specs.Tree.{Tree, done, int, raw, fix, sub, openOne, openAll, listed, later, intAt, rawAt, joinO, subAt}
 use Rattle.tree.specs.Depth.{listed-opens}
 use Rattle.fields.specs.Judged.{isSingle}
 use Rattle.tree.specs.declared.Kind.{Kind}
@@ -154,18 +154,21 @@ abbrev pub intC : Option Content → Option ℕ
 intC none = none
 intC (some (cInt v)) = some v
 intC (some (cRaw b)) = none
+intC (some (cFix b)) = none
 intC (some (cMsg k b)) = none
 
 abbrev pub rawC : Option Content → Option (List ℕ)
 rawC none = none
 rawC (some (cInt v)) = none
 rawC (some (cRaw b)) = some b
+rawC (some (cFix b)) = none
 rawC (some (cMsg k b)) = none
 
 abbrev pub subC : Option Content → Option Tree
 subC none = none
 subC (some (cInt v)) = none
 subC (some (cRaw b)) = none
+subC (some (cFix b)) = none
 subC (some (cMsg k b)) = listed k b
 
 -- one item before the others: of another sort, or of the number looked for
@@ -202,6 +205,7 @@ int-look n (item m c ∷ is) t e o =
     go : (c : Content) (t0 : Tree) → intAt n t0 ≡ intC (find n is) → openOne (λ k b. listed k b) m c t0 ≡ some t → intAt n t ≡ intC (choose (eqb n m) (some c) (find n is))
     go (cInt v) t0 ih q = let w : int m v t0 ≡ t = cc (q) in ap (intAt n) (sym w) ∙ hit intC refl n is ih (cInt v) (eqb n m) (o .0) v refl
     go (cRaw b) t0 ih q = let w : raw m b t0 ≡ t = cc (q) in ap (intAt n) (sym w) ∙ pass intC refl n is ih (cRaw b) (eqb n m) (o .0) refl
+    go (cFix b) t0 ih q = let w : fix m b t0 ≡ t = cc (q) in ap (intAt n) (sym w) ∙ pass intC refl n is ih (cFix b) (eqb n m) (o .0) refl
     go (cMsg k b) t0 ih q = inner (listed k b) q
       where
         inner : (x : Option Tree) → mapO (λ s. sub m s t0) x ≡ some t → intAt n t ≡ intC (choose (eqb n m) (some (cMsg k b)) (find n is))
@@ -218,6 +222,7 @@ raw-look n (item m c ∷ is) t e o =
     go : (c : Content) (t0 : Tree) → rawAt n t0 ≡ rawC (find n is) → openOne (λ k b. listed k b) m c t0 ≡ some t → rawAt n t ≡ rawC (choose (eqb n m) (some c) (find n is))
     go (cInt v) t0 ih q = let w : int m v t0 ≡ t = cc (q) in ap (rawAt n) (sym w) ∙ pass rawC refl n is ih (cInt v) (eqb n m) (o .0) refl
     go (cRaw b) t0 ih q = let w : raw m b t0 ≡ t = cc (q) in ap (rawAt n) (sym w) ∙ hit rawC refl n is ih (cRaw b) (eqb n m) (o .0) b refl
+    go (cFix b) t0 ih q = let w : fix m b t0 ≡ t = cc (q) in ap (rawAt n) (sym w) ∙ pass rawC refl n is ih (cFix b) (eqb n m) (o .0) refl
     go (cMsg k b) t0 ih q = inner (listed k b) q
       where
         inner : (x : Option Tree) → mapO (λ s. sub m s t0) x ≡ some t → rawAt n t ≡ rawC (choose (eqb n m) (some (cMsg k b)) (find n is))
@@ -234,6 +239,7 @@ sub-look n (item m c ∷ is) t e o =
     go : (c : Content) (t0 : Tree) → subAt n t0 ≡ subC (find n is) → openOne (λ k b. listed k b) m c t0 ≡ some t → subAt n t ≡ subC (choose (eqb n m) (some c) (find n is))
     go (cInt v) t0 ih q = let w : int m v t0 ≡ t = cc (q) in ap (subAt n) (sym w) ∙ pass subC refl n is ih (cInt v) (eqb n m) (o .0) refl
     go (cRaw b) t0 ih q = let w : raw m b t0 ≡ t = cc (q) in ap (subAt n) (sym w) ∙ pass subC refl n is ih (cRaw b) (eqb n m) (o .0) refl
+    go (cFix b) t0 ih q = let w : fix m b t0 ≡ t = cc (q) in ap (subAt n) (sym w) ∙ pass subC refl n is ih (cFix b) (eqb n m) (o .0) refl
     go (cMsg k b) t0 ih q = inner (listed k b) refl q
       where
         joined : (s : Tree) (x : Bool) → eqb n m ≡ x → listed k b ≡ some s → joinO x s (subAt n t0) ≡ subC (choose x (some (cMsg k b)) (find n is))

@@ -8,12 +8,13 @@ use lib.Dec.{eqb}
 use borrow.Author.Tests.{eqb-true}
 use Rattle.wire.specs.Reader.{choose}
 use Rattle.wire.specs.Wire.{Value, vint, v64, vlen, v32, Field, field, fieldsOf}
-use Rattle.tree.specs.Rules.{ruleOf, strictOf}
-use Rattle.tree.specs.Tree.{mapO, guard, isSome, Content, cInt, cRaw, cMsg, Item, item, isInt32, decode, find, add, byRule, step, items, itemsO, level}
-use Rattle.tree.specs.Tree.{Tree, done, int, raw, sub, openOne, openAll, listed, consIf, intsAt, rawsAt, subsAt}
+use Rattle.tree.specs.Rules.{namesOf, ruleOf, strictOf}
+use Rattle.tree.specs.Tree.{mapO, guard, isSome, among, Content, cInt, cRaw, cFix, cMsg, Item, item, isInt32, decode, find, add, byRule, step, items, itemsO, level}
+use Rattle.tree.specs.Tree.{Tree, done, int, raw, fix, sub, openOne, openAll, listed, consIf, intsAt, rawsAt, subsAt}
 use Rattle.tree.specs.declared.Kind.{Kind}
+use Rattle.tree.specs.declared.Names.{Names}
 use Rattle.tree.specs.declared.Form.{Form}
-use Rattle.tree.specs.declared.Form.the-variants.{Int32, Bytes, Nested}
+use Rattle.tree.specs.declared.Form.the-variants.{Int32, Named, Bytes, Nested}
 use Rattle.tree.specs.declared.Rule.{Rule}
 use Rattle.tree.specs.declared.Rule.the-variants.{Unlisted, Refused, Single, Repeated}
 use Rattle.lookups.specs.Views.{orDone, Reads, treeOf}
@@ -106,24 +107,28 @@ abbrev intsC : List Content → List ℕ
 intsC [] = []
 intsC (cInt v ∷ cs) = v ∷ intsC cs
 intsC (cRaw b ∷ cs) = intsC cs
+intsC (cFix b ∷ cs) = intsC cs
 intsC (cMsg k b ∷ cs) = intsC cs
 
 abbrev rawsC : List Content → List (List ℕ)
 rawsC [] = []
 rawsC (cInt v ∷ cs) = rawsC cs
 rawsC (cRaw b ∷ cs) = b ∷ rawsC cs
+rawsC (cFix b ∷ cs) = rawsC cs
 rawsC (cMsg k b ∷ cs) = rawsC cs
 
 abbrev subsC : List Content → List Tree
 subsC [] = []
 subsC (cInt v ∷ cs) = subsC cs
 subsC (cRaw b ∷ cs) = subsC cs
+subsC (cFix b ∷ cs) = subsC cs
 subsC (cMsg k b ∷ cs) = treeOf k b ∷ subsC cs
 
 abbrev ReadC : List Content → Type 0
 ReadC [] = Unit {0}
 ReadC (cInt v ∷ cs) = ReadC cs
 ReadC (cRaw b ∷ cs) = ReadC cs
+ReadC (cFix b ∷ cs) = ReadC cs
 ReadC (cMsg k b ∷ cs) = Reads k b × ReadC cs
 
 record Looks (n : ℕ) (cs : List Content) (t : Tree) : Type 0 where
@@ -139,6 +144,10 @@ looks-int n v t false m cs e h = record { ints = ap₂ (λ b l. consIf b v l) e 
 looks-raw : (n : ℕ) (x : List ℕ) (t : Tree) (b : Bool) (m : ℕ) (cs : List Content) → eqb n m ≡ b → Looks n cs t → Looks n (consIf b (cRaw x) cs) (raw m x t)
 looks-raw n x t true m cs e h = record { ints = h .ints; raws = ap₂ (λ b l. consIf b x l) e (h .raws); subs = h .subs; read = h .read }
 looks-raw n x t false m cs e h = record { ints = h .ints; raws = ap₂ (λ b l. consIf b x l) e (h .raws); subs = h .subs; read = h .read }
+
+looks-fix : (n : ℕ) (x : List ℕ) (t : Tree) (b : Bool) (m : ℕ) (cs : List Content) → Looks n cs t → Looks n (consIf b (cFix x) cs) (fix m x t)
+looks-fix n x t true m cs h = record { ints = h .ints; raws = h .raws; subs = h .subs; read = h .read }
+looks-fix n x t false m cs h = record { ints = h .ints; raws = h .raws; subs = h .subs; read = h .read }
 
 looks-sub : (n : ℕ) (k : Kind) (x : List ℕ) (s t : Tree) (b : Bool) (m : ℕ) (cs : List Content) → eqb n m ≡ b → listed k x ≡ some s → Looks n cs t
     → Looks n (consIf b (cMsg k x) cs) (sub m s t)
@@ -161,6 +170,7 @@ looks-all n (item m c ∷ is) t e =
     go : (c : Content) (t0 : Tree) → Looks n (contents n is) t0 → openOne (λ k b. listed k b) m c t0 ≡ some t → Looks n (consIf (eqb n m) c (contents n is)) t
     go (cInt v) t0 h q = let w : int m v t0 ≡ t = cc (q) in subst (λ (t : Tree). Looks n (consIf (eqb n m) (cInt v) (contents n is)) t) w (looks-int n v t0 (eqb n m) m (contents n is) refl h)
     go (cRaw x) t0 h q = let w : raw m x t0 ≡ t = cc (q) in subst (λ (t : Tree). Looks n (consIf (eqb n m) (cRaw x) (contents n is)) t) w (looks-raw n x t0 (eqb n m) m (contents n is) refl h)
+    go (cFix x) t0 h q = let w : fix m x t0 ≡ t = cc (q) in subst (λ (t : Tree). Looks n (consIf (eqb n m) (cFix x) (contents n is)) t) w (looks-fix n x t0 (eqb n m) m (contents n is) h)
     go (cMsg k x) t0 h q = inner (listed k x) refl q
       where
         inner : (o : Option Tree) → listed k x ≡ o → mapO (λ s. sub m s t0) o ≡ some t → Looks n (consIf (eqb n m) (cMsg k x) (contents n is)) t
@@ -170,19 +180,50 @@ looks-all n (item m c ∷ is) t e =
             subst (λ (t : Tree). Looks n (consIf (eqb n m) (cMsg k x) (contents n is)) t) w (looks-sub n k x s t0 (eqb n m) m (contents n is) refl r h)
 
 -- the values as the forms read them ----------------------------------------------------------------
-guarded : (t : Bool) (v : ℕ) (c : Content) → guard t (cInt v) ≡ some c → cInt v ≡ c
-guarded true v c e = cc
+-- a form that keeps a number as it stands, and nothing else
+abbrev Keeps : Form → Type 0
+Keeps f = (v : Value) (c : Content) → decode f v ≡ some c → (x : ℕ) × (v ≡ vint x) × (c ≡ cInt x)
+
+guarded : (t : Bool) (v : ℕ) (c : Content) → guard t (cInt v) ≡ some c → (x : ℕ) × (vint v ≡ vint x) × (c ≡ cInt x)
+guarded true v c e = (v, refl, (cc))
 guarded false v c e = nothing-some e
 
-each-ints : (vs : List Value) (cs : List Content) → Each Int32 vs cs → numbersOf vs ≡ intsC cs
-each-ints [] [] h = refl
-each-ints [] (c ∷ cs) h = absurd h
-each-ints (v ∷ vs) [] h = absurd h
-each-ints (vint v ∷ vs) (c ∷ cs) h =
-    subst (λ (c : Content). v ∷ numbersOf vs ≡ intsC (c ∷ cs)) (guarded (isInt32 v) v c (h .0)) (ap (λ l. v ∷ l) (each-ints vs cs (h .1)))
-each-ints (v64 b ∷ vs) (c ∷ cs) h = nothing-some (h .0)
-each-ints (vlen b ∷ vs) (c ∷ cs) h = nothing-some (h .0)
-each-ints (v32 b ∷ vs) (c ∷ cs) h = nothing-some (h .0)
+keeps-int32 : Keeps Int32
+keeps-int32 (vint v) c e = guarded (isInt32 v) v c e
+keeps-int32 (v64 b) c e = nothing-some e
+keeps-int32 (vlen b) c e = nothing-some e
+keeps-int32 (v32 b) c e = nothing-some e
+
+keeps-named : (e : Names) → Keeps (Named e)
+keeps-named e (vint v) c q = guarded (among v (namesOf e)) v c q
+keeps-named e (v64 b) c q = nothing-some q
+keeps-named e (vlen b) c q = nothing-some q
+keeps-named e (v32 b) c q = nothing-some q
+
+each-ints : (f : Form) → Keeps f → (vs : List Value) (cs : List Content) → Each f vs cs → numbersOf vs ≡ intsC cs
+each-ints f g [] [] h = refl
+each-ints f g [] (c ∷ cs) h = absurd h
+each-ints f g (v ∷ vs) [] h = absurd h
+each-ints f g (v ∷ vs) (c ∷ cs) h =
+    let i = g v c (h .0) in
+    ap (λ v. numbersOf (v ∷ vs)) (i .1) ∙ ap (λ l. i .0 ∷ l) (each-ints f g vs cs (h .1)) ∙ ap (λ c. intsC (c ∷ cs)) (sym (i .2))
+
+-- numbers that are each among some
+abbrev pub AllAmong : List ℕ → List ℕ → Type 0
+AllAmong names [] = Unit {0}
+AllAmong names (v ∷ vs) = (among v names ≡ true) × AllAmong names vs
+
+guard-true : (t : Bool) (v : ℕ) {c : Content} → guard t (cInt v) ≡ some c → t ≡ true
+guard-true true v e = refl
+guard-true false v e = nothing-some e
+
+each-among : (e : Names) (vs : List Value) (cs : List Content) → Each (Named e) vs cs → AllAmong (namesOf e) (numbersOf vs)
+each-among e [] cs h = tt
+each-among e (v ∷ vs) [] h = absurd h
+each-among e (vint v ∷ vs) (c ∷ cs) h = (guard-true (among v (namesOf e)) v (h .0), each-among e vs cs (h .1))
+each-among e (v64 b ∷ vs) (c ∷ cs) h = tt
+each-among e (vlen b ∷ vs) (c ∷ cs) h = tt
+each-among e (v32 b ∷ vs) (c ∷ cs) h = tt
 
 each-raws : (vs : List Value) (cs : List Content) → Each Bytes vs cs → partsOf vs ≡ rawsC cs
 each-raws [] [] h = refl
@@ -221,10 +262,19 @@ each-subs k (v32 b ∷ vs) (c ∷ cs) h r = nothing-some (h .0)
 
 -- THE LAWS -----------------------------------------------------------------------------------------
 module _ (k : Kind) (m : List ℕ) (y : Reads k m) (n : ℕ) where
-  pub repeated-ints : ruleOf k n ≡ Repeated Int32 → intsAt n (treeOf k m) ≡ numbersIn n m
-  repeated-ints q =
+  ints-of : (f : Form) → Keeps f → ruleOf k n ≡ Repeated f → intsAt n (treeOf k m) ≡ numbersIn n m
+  ints-of f g q =
       let i = level-of k m y in
-      looks-all n (i .0) (treeOf k m) (i .2) .ints ∙ sym (each-ints (valuesIn n m) (contents n (i .0)) (each-level k n Int32 q m (i .0) (i .1)))
+      looks-all n (i .0) (treeOf k m) (i .2) .ints ∙ sym (each-ints f g (valuesIn n m) (contents n (i .0)) (each-level k n f q m (i .0) (i .1)))
+
+  pub repeated-ints : ruleOf k n ≡ Repeated Int32 → intsAt n (treeOf k m) ≡ numbersIn n m
+  repeated-ints q = ints-of Int32 keeps-int32 q
+
+  pub repeated-named : (e : Names) → ruleOf k n ≡ Repeated (Named e) → intsAt n (treeOf k m) ≡ numbersIn n m
+  repeated-named e q = ints-of (Named e) (keeps-named e) q
+
+  pub repeated-among : (e : Names) → ruleOf k n ≡ Repeated (Named e) → AllAmong (namesOf e) (numbersIn n m)
+  repeated-among e q = let i = level-of k m y in each-among e (valuesIn n m) (contents n (i .0)) (each-level k n (Named e) q m (i .0) (i .1))
 
   pub repeated-raws : ruleOf k n ≡ Repeated Bytes → rawsAt n (treeOf k m) ≡ partsIn n m
   repeated-raws q =

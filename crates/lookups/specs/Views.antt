@@ -10,7 +10,7 @@ use Rattle.tree.specs.Tree.{guard, isSome, level, Tree, done, listed, intAt, ra
 use Rattle.fields.specs.Judged.{bit}
 use Rattle.fields.specs.Slots.{Tells}
 use Rattle.tree.specs.declared.Kind.{Kind}
-use Rattle.tree.specs.declared.Form.the-variants.{Int64, Int32, Named, Flag, Bytes, Opaque, Nested}
+use Rattle.tree.specs.declared.Form.the-variants.{Int64, Int32, Named, Flag, Bytes, Opaque, Float, Nested}
 use Rattle.tree.specs.declared.Rule.{Rule}
 use Rattle.tree.specs.declared.Rule.the-variants.{Unlisted, Refused, Single, Repeated}
 use Rattle.fields.specs.declared.slots.Slots.{Slots}
@@ -71,6 +71,7 @@ isNumber (Single (Named e)) = true
 isNumber (Single Flag) = true
 isNumber (Single Bytes) = false
 isNumber (Single Opaque) = false
+isNumber (Single Float) = false
 isNumber (Single (Nested k)) = false
 isNumber (Repeated f) = false
 

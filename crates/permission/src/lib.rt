@@ -19,6 +19,8 @@ pub const RANGE: u8 = 3;
 
 pub const SETUP: u8 = 4;
 
+pub const GETLOG: u8 = 7;
+
 pub const SECURITY: u8 = 8;
 
 fn count(x: u8) -> usize

@@ -1,4 +1,4 @@
-// The permissions of a scope as a set of bits.
+// Sets of small numbers as bits, and the permissions that a scope may list.
 ghost use mathlib.Core.Path.{_≡_};
 ghost use Prim.Native.Nat.{_<_};
 ghost use Rattle.access.specs.Table.{named, withBit};
@@ -16,13 +16,13 @@ pub fn is_permission(p: u64) -> bool
     p <= 9
 }
 
-// The set with one permission more.
-pub fn with_permission(mask: u16, permission: u8) -> u16
-    requires { ⌜ permission < 16 ⌝ }
-    ensures { λ r. ⌜ r ≡ withBit mask permission ⌝ }
+// The set with one number more.
+pub fn with_bit(mask: u16, bit: u8) -> u16
+    requires { ⌜ bit < 16 ⌝ }
+    ensures { λ r. ⌜ r ≡ withBit mask bit ⌝ }
 {
-    if (mask >> permission) % 2 == 1 {
+    if (mask >> bit) % 2 == 1 {
         return mask;
     }
-    mask + (1 << permission)
+    mask + (1 << bit)
 }

@@ -3,14 +3,14 @@ use mathlib.Core.Path.{_≡_}
 use mathlib.Core.List.{List, []}
 use Prim.Native.Nat.{ℕ}
 use Rattle.protocol.specs.declared.Operation.{Operation}
-use Rattle.protocol.specs.declared.Operation.the-variants.{Noop, Get, GetVersion, GetNext, GetPrevious, GetKeyRange, Put, Delete, FlushAllData, Setup, Security}
+use Rattle.protocol.specs.declared.Operation.the-variants.{Noop, Get, GetVersion, GetNext, GetPrevious, GetKeyRange, Put, Delete, FlushAllData, Setup, GetLog, Security}
 use Rattle.protocol.specs.Command.{Body, orElse}
 use Rattle.protocol.specs.Judge.{keyValueIn, rangeIn}
 use Rattle.permission_rules.specs.declared.Permission.{Permission}
 use Rattle.permission_rules.specs.declared.Permission.the-variants.{Free, Key, Both, Any}
 
 -- "READ 0: GET, GETVERSION, GETNEXT, GETPREVIOUS. WRITE 1: PUT. DELETE 2: DELETE. RANGE 3: GETKEYRANGE. SETUP 4, SECURITY 8 likewise.
--- NOOP and FLUSHALLDATA need none"
+-- NOOP and FLUSHALLDATA need none"; document 02: "permission GETLOG 7, any key"
 abbrev pub permissionOf : Operation → Permission
 permissionOf Noop = Free
 permissionOf FlushAllData = Free
@@ -22,6 +22,7 @@ permissionOf Put = Key 1
 permissionOf Delete = Key 2
 permissionOf GetKeyRange = Both
 permissionOf Setup = Any 4
+permissionOf GetLog = Any 7
 permissionOf Security = Any 8
 
 -- the keys of a body: that of its keyValue, and those of its range; an absent one is empty

@@ -7,7 +7,7 @@ use native.Mathlib.Omega.{arith}
 use Rattle.access.specs.Table as access
 use Rattle.permission.specs.Permission.{permits, permitsAny, permitsRange}
 use Rattle.protocol.specs.declared.Operation.{Operation}
-use Rattle.protocol.specs.declared.Operation.the-variants.{Noop, Get, GetVersion, GetNext, GetPrevious, GetKeyRange, Put, Delete, FlushAllData, Setup, Security}
+use Rattle.protocol.specs.declared.Operation.the-variants.{Noop, Get, GetVersion, GetNext, GetPrevious, GetKeyRange, Put, Delete, FlushAllData, Setup, GetLog, Security}
 use Rattle.protocol.specs.Command.{Body}
 use Rattle.protocol.specs.Judge.{permitted}
 use Rattle.permission_rules.specs.declared.Permission.{Permission}
@@ -25,6 +25,7 @@ small-key Put p e = let q : 1 ≡ p = cc in omega arith
 small-key Delete p e = let q : 2 ≡ p = cc in omega arith
 small-key GetKeyRange p e = absurd (let z : _≡_ {A = ℕ} 0 1 = cc in omega arith)
 small-key Setup p e = absurd (let z : _≡_ {A = ℕ} 0 1 = cc in omega arith)
+small-key GetLog p e = absurd (let z : _≡_ {A = ℕ} 0 1 = cc in omega arith)
 small-key Security p e = absurd (let z : _≡_ {A = ℕ} 0 1 = cc in omega arith)
 
 pub small-any : (o : Operation) (p : ℕ) → permissionOf o ≡ Any p → p < 16
@@ -38,6 +39,7 @@ small-any Put p e = absurd (let z : _≡_ {A = ℕ} 0 1 = cc in omega arith)
 small-any Delete p e = absurd (let z : _≡_ {A = ℕ} 0 1 = cc in omega arith)
 small-any GetKeyRange p e = absurd (let z : _≡_ {A = ℕ} 0 1 = cc in omega arith)
 small-any Setup p e = let q : 4 ≡ p = cc in omega arith
+small-any GetLog p e = let q : 7 ≡ p = cc in omega arith
 small-any Security p e = let q : 8 ≡ p = cc in omega arith
 
 -- the verdict, by what the operation needs
@@ -59,6 +61,7 @@ by-permission a w Put k = ap (permits a w 1) (sym (k .key))
 by-permission a w Delete k = ap (permits a w 2) (sym (k .key))
 by-permission a w GetKeyRange k = ap₂ (permitsRange a w) (sym (k .start)) (sym (k .end))
 by-permission a w Setup k = refl
+by-permission a w GetLog k = refl
 by-permission a w Security k = refl
 
 pub by-needed : (a : access.Acl) (w : Bool) (o : Operation) {p : Permission} {b : Body} {key start end : List ℕ} → permissionOf o ≡ p → Keys b key start end

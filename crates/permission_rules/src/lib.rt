@@ -30,6 +30,7 @@ pub fn needed(o: Operation) -> Permission
         Operation::Delete => Permission::Key(permission::DELETE),
         Operation::GetKeyRange => Permission::Both,
         Operation::Setup => Permission::Any(permission::SETUP),
+        Operation::GetLog => Permission::Any(permission::GETLOG),
         Operation::Security => Permission::Any(permission::SECURITY),
     }
 }

@@ -1,25 +1,26 @@
--- Step 6: "From here the sequence counts as accepted, whatever follows." A refusal at steps 4 to 6 changes nothing.
+-- Step 6: "From here the sequence counts as accepted, whatever follows." A refusal at steps 4 to 6 changes nothing. The readings stay in any case.
 use Prim.Native.Nat.{ℕ, _+_, _%_, _^_}
 use native.Mathlib.Omega.{arith}
 use mathlib.Core.Path.{_≡_, refl, ap, _∙_}
 use mathlib.Core.Bool.{Bool, true, false}
-use mathlib.Core.List.{List}
+use mathlib.Core.List.{List, []}
 use mathlib.Core.Option.{Option, none, some}
 use lib.Dec.{eqb, ltb}
 use borrow.Author.Tests.{ltb-true, eqb-true, eq-eqb}
 use Rattle.wire.specs.Reader.{choose}
+use Rattle.tree.specs.Tree.{among}
 use Rattle.access.specs.Table as access
 use Rattle.access.specs.Table.{both}
 use Rattle.block.specs.Entry.{Entry}
 use Rattle.store.specs.Entries.{hasRoom, nextIn, previousIn}
 use Rattle.protocol.specs.declared.Operation.{Operation}
-use Rattle.protocol.specs.declared.Operation.the-variants.{Noop, Get, GetVersion, GetNext, GetPrevious, GetKeyRange, Put, Delete, FlushAllData, Setup, Security}
+use Rattle.protocol.specs.declared.Operation.the-variants.{Noop, Get, GetVersion, GetNext, GetPrevious, GetKeyRange, Put, Delete, FlushAllData, Setup, GetLog, Security}
 use Rattle.protocol.specs.declared.Asked.{Asked}
 use Rattle.protocol.specs.declared.Asked.the-variants.{Request, NotBuilt}
 use Rattle.protocol.specs.State.{State, table, entries, heard, accepted}
 use Rattle.protocol.specs.Command.{Header, KeyValue, Body, Command, orElse}
 use Rattle.protocol.specs.Operation.{askedBy}
-use Rattle.protocol.specs.Judge.{Result, bothThere, step4, step5, above, aboveLast, step6, step7, fault, step8, keyValueIn, permitted, step9}
+use Rattle.protocol.specs.Judge.{Result, fails, bothThere, step4, step5, above, aboveLast, step6, step7, fault, step8, keyValueIn, permitted, step9}
 use Rattle.protocol.specs.Judge.{entryThere, entryOf, shown, versionShown, versionRight, newEntry, put, deleteBy, setUp, step10, judge}
 
 -- steps 4 to 6 pass, with the sequence q
@@ -31,47 +32,49 @@ pub record Passes (s : State) (c : Command) (q : ℕ) : Type 0 where
   pub version : header .clusterVersion ≡ table s .clusterVersion
   pub later : aboveLast q (s .connection .last) ≡ true
 
--- the result leaves the connection of s as it is
+-- the result leaves the connection and the readings of s as they are
 record Keeps (s : State) (r : Result) : Type 0 where
   same : r .state .connection ≡ s .connection
+  read : r .state .readings ≡ s .readings
 
 keeps-choose : (s : State) (t : Bool) {x y : Result} → Keeps s x → Keeps s y → Keeps s (choose t x y)
 keeps-choose s true h k = h
 keeps-choose s false h k = k
 
 keeps-shown : (s : State) (m : Bool) (o : Option Entry) → Keeps s (shown s m o)
-keeps-shown s m none = record { same = refl }
-keeps-shown s m (some e) = record { same = refl }
+keeps-shown s m none = record { same = refl; read = refl }
+keeps-shown s m (some e) = record { same = refl; read = refl }
 
 keeps-version : (s : State) (o : Option Entry) → Keeps s (versionShown s o)
-keeps-version s none = record { same = refl }
-keeps-version s (some e) = record { same = refl }
+keeps-version s none = record { same = refl; read = refl }
+keeps-version s (some e) = record { same = refl; read = refl }
 
 keeps-put : (s : State) (k : KeyValue) (v : List ℕ) → Keeps s (put s k v)
 keeps-put s k v =
-    keeps-choose s (versionRight k (entryOf s (k .key))) (keeps-choose s (hasRoom (s .store) (newEntry k v)) (record { same = refl }) (record { same = refl }))
-    (record { same = refl })
+    keeps-choose s (versionRight k (entryOf s (k .key))) (keeps-choose s (hasRoom (s .store) (newEntry k v)) (record { same = refl; read = refl }) (record { same = refl; read = refl }))
+    (record { same = refl; read = refl })
 
 keeps-delete : (s : State) (k : KeyValue) (o : Option Entry) → Keeps s (deleteBy s k o)
-keeps-delete s k none = keeps-choose s (k .force) (record { same = refl }) (record { same = refl })
-keeps-delete s k (some e) = keeps-choose s (versionRight k (some e)) (record { same = refl }) (record { same = refl })
+keeps-delete s k none = keeps-choose s (k .force) (record { same = refl; read = refl }) (record { same = refl; read = refl })
+keeps-delete s k (some e) = keeps-choose s (versionRight k (some e)) (record { same = refl; read = refl }) (record { same = refl; read = refl })
 
 keeps-setup : (s : State) (o : Option ℕ) → Keeps s (setUp s o)
-keeps-setup s none = record { same = refl }
-keeps-setup s (some v) = record { same = refl }
+keeps-setup s none = record { same = refl; read = refl }
+keeps-setup s (some v) = record { same = refl; read = refl }
 
 keeps-step10 : (s : State) (o : Operation) (b : Body) (v : List ℕ) → Keeps s (step10 s o b v)
-keeps-step10 s Noop b v = record { same = refl }
-keeps-step10 s FlushAllData b v = record { same = refl }
+keeps-step10 s Noop b v = record { same = refl; read = refl }
+keeps-step10 s FlushAllData b v = record { same = refl; read = refl }
 keeps-step10 s Get b v = keeps-shown s (keyValueIn b .metadataOnly) (entryOf s (keyValueIn b .key))
 keeps-step10 s GetVersion b v = keeps-version s (entryOf s (keyValueIn b .key))
 keeps-step10 s GetNext b v = keeps-shown s (keyValueIn b .metadataOnly) (entryThere s (nextIn (keyValueIn b .key) (entries s)))
 keeps-step10 s GetPrevious b v = keeps-shown s (keyValueIn b .metadataOnly) (entryThere s (previousIn (keyValueIn b .key) (entries s)))
 keeps-step10 s Put b v = keeps-put s (keyValueIn b) v
 keeps-step10 s Delete b v = keeps-delete s (keyValueIn b) (entryOf s (keyValueIn b .key))
-keeps-step10 s GetKeyRange b v = record { same = refl }
+keeps-step10 s GetKeyRange b v = record { same = refl; read = refl }
 keeps-step10 s Setup b v = keeps-setup s (orElse none (b .setup))
-keeps-step10 s Security b v = record { same = refl }
+keeps-step10 s GetLog b v = keeps-choose s (among 7 (orElse [] (b .getLog))) (record { same = refl; read = refl }) (record { same = refl; read = refl })
+keeps-step10 s Security b v = record { same = refl; read = refl }
 
 step5-passed : (s : State) (h : Header) (next : Result) → h .clusterVersion ≡ table s .clusterVersion → step5 s h next ≡ next
 step5-passed s h next e = rw (e, eq-eqb (table s .clusterVersion) (table s .clusterVersion) refl)
@@ -89,9 +92,9 @@ module _ (s : State) (a : access.Acl) (c : Command) (v : List ℕ) where
   keeps-onwards : (q : ℕ) (o : Asked) → Keeps (accepted s q) (onwards q o)
   keeps-onwards q (Request o) =
       keeps-choose (accepted s q) (eqb (fault o (c .body) v) 0)
-      (keeps-choose (accepted s q) (permitted a (s .connection .protected) o (c .body)) (keeps-step10 (accepted s q) o (c .body) v) (record { same = refl }))
-      (record { same = refl })
-  keeps-onwards q NotBuilt = record { same = refl }
+      (keeps-choose (accepted s q) (permitted a (s .connection .protected) o (c .body)) (keeps-step10 (accepted s q) o (c .body) v) (record { same = refl; read = refl }))
+      (record { same = refl; read = refl })
+  keeps-onwards q NotBuilt = record { same = refl; read = refl }
 
   -- steps 4 to 6
   abbrev before : Option Header → Result
@@ -142,6 +145,28 @@ module _ (s : State) (a : access.Acl) (c : Command) (v : List ℕ) where
       go : (o : Option Header) → c .header ≡ o → before o .state ≡ s
       go none p = refl
       go (some h) p = both-there h (h .connectionID) (h .sequence) p refl refl
+
+  -- NO CALL CHANGES THE READINGS
+  pub readings-stay : judge s a c v .state .readings ≡ s .readings
+  unfolding judge
+  readings-stay = go (c .header)
+    where
+      last : (t u : Bool) (x y z : Result) → x .state .readings ≡ s .readings → y .state .readings ≡ s .readings → z .state .readings ≡ s .readings
+          → choose t (choose u x y) z .state .readings ≡ s .readings
+      last true true x y z hx hy hz = hx
+      last true false x y z hx hy hz = hy
+      last false u x y z hx hy hz = hz
+
+      both-there : (h : Header) (i q : Option ℕ) → between h i q .state .readings ≡ s .readings
+      both-there h none q = refl
+      both-there h (some i) none = refl
+      both-there h (some i) (some q) =
+          last (eqb (h .clusterVersion) (table s .clusterVersion)) (both (eqb i (s .connection .number)) (aboveLast q (s .connection .last)))
+          (onwards q (askedBy (h .messageType))) (fails s 16) (fails s 4) (keeps-onwards q (askedBy (h .messageType)) .read) refl refl
+
+      go : (o : Option Header) → before o .state .readings ≡ s .readings
+      go none = refl
+      go (some h) = both-there h (h .connectionID) (h .sequence)
 
 -- "accepting an equal sequence" is wrong: no sequence is above itself
 ltb-self : (n : ℕ) → (t : Bool) → ltb n n ≡ t → t ≡ false

@@ -20,12 +20,13 @@ pub data Outcome (S : Type 0) : Type 0 where
   -- reply bytes, what is lent afterwards, the count of input bytes taken
   answered : List ℕ → S → ℕ → Outcome S
 
--- the rest of document 01, any that there may be. A state is the store, the device record with its table, and the connection
+-- the rest of document 01, any that there may be. A state is the store, the device record with its table, the readings, and the connection
 pub record Device : Type 1 where
   pub State : Type 0
   pub storeGood : State → Bool
   pub recordGood : State → Bool
   pub closed : State → Bool
+  pub readingsGood : State → Bool
   -- the key of an identity, in the state's table
   pub keyOf : State → ℕ → Option (List ℕ)
   -- the digest of a text under a key: the key first
@@ -53,10 +54,14 @@ module _ (D : Device) where
   respond s v (undecodable i key) = reply (D .invalid s i key) s
   respond s v (read i key t) = D .decide s i key t v
 
+  -- document 02, CR 1: "a new call refusal 7, after the rest"
+  abbrev pub unlessReadings : D .State → Outcome (D .State) → Outcome (D .State)
+  unlessReadings s o = choose (D .readingsGood s) o (refused 7)
+
   abbrev pub serve : D .State → ℕ → Framing → Outcome (D .State)
   serve s n more = refused 5
-  serve s n closes = taking n (D .close s 20)
-  serve s n (whole m v rest) = taking (9 + length m + length v) (respond s v (reading s m))
+  serve s n closes = unlessReadings s (taking n (D .close s 20))
+  serve s n (whole m v rest) = unlessReadings s (taking (9 + length m + length v) (respond s v (reading s m)))
 
   -- the length of the reply buffer, the input
   unfoldable pub answer : D .State → ℕ → List ℕ → Outcome (D .State)

@@ -1,5 +1,5 @@
 -- Document 01, "Replies": "Body only on success: PUT and DELETE an empty keyValue; GET, GETNEXT, GETPREVIOUS keyValue 3, 4, 5, 6 …, and the value part unless
--- metadataOnly; GETVERSION keyValue 4 …; range with 8 for each key." Shown of what steps 4 to 10 give.
+-- metadataOnly; GETVERSION keyValue 4 …; range with 8 for each key"; GETLOG a getLog (document 02, CR 1). Shown of what steps 4 to 10 give.
 use Prim.Native.Nat.{ℕ}
 use native.Mathlib.Omega.{arith}
 use mathlib.Core.Path.{_≡_, refl}
@@ -8,20 +8,21 @@ use mathlib.Core.List.{List, []}
 use mathlib.Core.Option.{Option, none, some}
 use lib.Dec.{eqb}
 use Rattle.wire.specs.Reader.{choose}
+use Rattle.tree.specs.Tree.{among}
 use Rattle.access.specs.Table as access
 use Rattle.access.specs.Table.{both}
 use Rattle.access.specs.Record.{tableBytes, withClusterVersion}
 use Rattle.block.specs.Entry.{Entry}
 use Rattle.store.specs.Entries.{nextIn, previousIn, hasRoom, putStore, deleteStore}
 use Rattle.protocol.specs.declared.Operation.{Operation}
-use Rattle.protocol.specs.declared.Operation.the-variants.{Noop, Get, GetVersion, GetNext, GetPrevious, GetKeyRange, Put, Delete, FlushAllData, Setup, Security}
+use Rattle.protocol.specs.declared.Operation.the-variants.{Noop, Get, GetVersion, GetNext, GetPrevious, GetKeyRange, Put, Delete, FlushAllData, Setup, GetLog, Security}
 use Rattle.protocol.specs.declared.Asked.{Asked}
 use Rattle.protocol.specs.declared.Asked.the-variants.{Request, NotBuilt}
 use Rattle.protocol.specs.State.{State, table, entries, withDevice, withStore, accepted}
 use Rattle.protocol.specs.Command.{Header, KeyValue, Body, Command, orElse}
 use Rattle.protocol.specs.Operation.{askedBy}
-use Rattle.protocol.specs.Judge.{ReplyBody, Result, bare, keyValue, range, fails, succeeds, bothThere, step4, step5, aboveLast, step6, step7, step8, step9, keyValueIn, rangeIn, permitted}
-use Rattle.protocol.specs.Judge.{entryThere, entryOf, shown, versionShown, versionRight, newEntry, put, deleteBy, keysOf, setUp, wanted, step10, judge}
+use Rattle.protocol.specs.Judge.{Log, ReplyBody, Result, bare, keyValue, range, log, fails, succeeds, bothThere, step4, step5, aboveLast, step6, step7, step8, step9, keyValueIn, rangeIn, permitted}
+use Rattle.protocol.specs.Judge.{entryThere, entryOf, shown, versionShown, versionRight, newEntry, put, deleteBy, keysOf, setUp, logOf, logged, wanted, step10, judge}
 use Rattle.protocol.specs.Box.{typeOf}
 use Rattle.protocol.specs.Faults.{FaultCode, nothing, no-algorithm, invalid, fault-code}
 
@@ -41,6 +42,7 @@ Shape m Get b v = (e : Entry) × (b ≡ keyValue (e .key) (e .version) (e .tag) 
 Shape m GetNext b v = (e : Entry) × (b ≡ keyValue (e .key) (e .version) (e .tag) (e .algorithm)) × (v ≡ choose m [] (e .value))
 Shape m GetPrevious b v = (e : Entry) × (b ≡ keyValue (e .key) (e .version) (e .tag) (e .algorithm)) × (v ≡ choose m [] (e .value))
 Shape m GetVersion b v = (e : Entry) × (b ≡ keyValue [] (e .version) [] 0) × (v ≡ [])
+Shape m GetLog b v = (g : Log) × (b ≡ log g) × (v ≡ [])
 Shape m GetKeyRange b v = (ks : List (List ℕ)) × (b ≡ range ks) × (v ≡ [])
 
 -- no success without a built request
@@ -100,6 +102,10 @@ setup-bodied : (m : Bool) (s : State) (o : Option ℕ) → Bodied m (Request Set
 setup-bodied m s none = succeeded m Setup s bare [] (refl, refl)
 setup-bodied m s (some v) = succeeded m Setup (withDevice s (withClusterVersion (s .device) v)) bare [] (refl, refl)
 
+log-bodied : (m : Bool) (s : State) (types : List ℕ) → Bodied m (Request GetLog) (logged s types)
+log-bodied m s types =
+    chosen m (Request GetLog) (among 7 types) _ _ (failed m (Request GetLog) s _ (λ e. omega arith)) (succeeded m GetLog s (log (logOf s types)) [] (logOf s types, refl, refl))
+
 step10-bodied : (s : State) (o : Operation) (b : Body) (v : List ℕ) → Bodied (keyValueIn b .metadataOnly) (Request o) (step10 s o b v)
 step10-bodied s Noop b v = succeeded _ Noop s bare [] (refl, refl)
 step10-bodied s FlushAllData b v = succeeded _ FlushAllData s bare [] (refl, refl)
@@ -111,6 +117,7 @@ step10-bodied s Put b v = put-bodied _ s (keyValueIn b) v
 step10-bodied s Delete b v = delete-bodied _ s (keyValueIn b) (entryOf s (keyValueIn b .key))
 step10-bodied s GetKeyRange b v = succeeded _ GetKeyRange s (range (keysOf (rangeIn b) (entries s))) [] (keysOf (rangeIn b) (entries s), refl, refl)
 step10-bodied s Setup b v = setup-bodied _ s (orElse none (b .setup))
+step10-bodied s GetLog b v = log-bodied _ s (orElse [] (b .getLog))
 step10-bodied s Security b v = succeeded _ Security (withDevice s (tableBytes (wanted (table s .clusterVersion) (orElse [] (b .security))))) bare [] (refl, refl)
 
 -- ---- the whole judgement

@@ -1,4 +1,4 @@
--- The box: document 01 whole, as one device of `Answer`.
+-- The box: document 01 and CR 1 of document 02 whole, as one device of `Answer`.
 use mathlib.Core.List.{List, []}
 use mathlib.Core.Option.{Option, none, some}
 use Prim.Native.Nat.{ℕ, _-_, _^_}
@@ -8,6 +8,7 @@ use Rattle.access.specs.Table.{placeOf, tableGood}
 use Rattle.access.specs.declared.Found.{Found}
 use Rattle.access.specs.declared.Found.the-variants.{At, Nobody}
 use Rattle.store.specs.Store.{storeGood}
+use Rattle.readings.specs.Lent.{readingsGood}
 use Rattle.signature.specs.Hmac.{hmac}
 use Rattle.protocol.specs.State.{State, table, closing}
 use Rattle.protocol.specs.Command.{Header, Command, commandOf}
@@ -61,6 +62,7 @@ box =
       storeGood = λ s. storeGood (s .store);
       recordGood = λ s. tableGood (table s);
       closed = λ s. s .connection .closed;
+      readingsGood = λ s. readingsGood (s .readings);
       keyOf = λ s i. mapO (λ a. a .key) (aclOf s i);
       hmac = hmac;
       close = close;

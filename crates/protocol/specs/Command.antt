@@ -1,4 +1,4 @@
--- What a command says, by the names of document 01's list. "Absent bytes are empty, flags false, clusterVersion and offset 0."
+-- What a command says, by the names of document 01's list; getLog by document 02, CR 1. "Absent bytes are empty, flags false, clusterVersion and offset 0."
 use mathlib.Core.Bool.{Bool, false, not}
 use mathlib.Core.List.{List, [], _∷_}
 use mathlib.Core.Option.{Option, none, some}
@@ -57,6 +57,8 @@ pub record Body : Type 0 where
   pub range : Option Range
   -- of a setup the newClusterVersion, if it has one
   pub setup : Option (Option ℕ)
+  -- of a getLog the types
+  pub getLog : Option (List ℕ)
   pub security : Option (List Acl)
 
 pub record Command : Type 0 where
@@ -92,6 +94,9 @@ rangeOf t =
 abbrev pub setupOf : Tree → Option ℕ
 setupOf t = intAt 1 t
 
+abbrev pub typesOf : Tree → List ℕ
+typesOf t = intsAt 1 t
+
 abbrev pub scopeOf : Tree → Scope
 scopeOf t = record { offset = orElse 0 (intAt 1 t); value = orElse [] (rawAt 2 t); permissions = intsAt 3 t; tlsRequired = flag (intAt 4 t) }
 
@@ -106,7 +111,7 @@ abbrev pub securityOf : Tree → List Acl
 securityOf t = mapL aclOf (subsAt 2 t)
 
 abbrev pub noBody : Body
-noBody = record { keyValue = none; range = none; setup = none; security = none }
+noBody = record { keyValue = none; range = none; setup = none; getLog = none; security = none }
 
 abbrev pub bodyOf : Tree → Body
 bodyOf t =
@@ -114,6 +119,7 @@ bodyOf t =
       keyValue = mapO keyValueOf (subAt 1 t);
       range = mapO rangeOf (subAt 2 t);
       setup = mapO setupOf (subAt 3 t);
+      getLog = mapO typesOf (subAt 6 t);
       security = mapO securityOf (subAt 7 t);
     }
 

@@ -8,9 +8,9 @@ use Rattle.wire.specs.Reader.{choose}
 use Rattle.tree.specs.Tree.{isSome}
 use Rattle.access.specs.Table.{both}
 use Rattle.protocol.specs.declared.Operation.{Operation}
-use Rattle.protocol.specs.declared.Operation.the-variants.{Noop, Get, GetVersion, GetNext, GetPrevious, GetKeyRange, Put, Delete, FlushAllData, Setup, Security}
+use Rattle.protocol.specs.declared.Operation.the-variants.{Noop, Get, GetVersion, GetNext, GetPrevious, GetKeyRange, Put, Delete, FlushAllData, Setup, GetLog, Security}
 use Rattle.protocol.specs.Command.{Body}
-use Rattle.protocol.specs.Judge.{isEmpty, present, keyValueGood, changeGood, rangeGood, securityGood, algorithmsGood, broken, fault}
+use Rattle.protocol.specs.Judge.{isEmpty, present, keyValueGood, changeGood, rangeGood, typesGood, securityGood, algorithmsGood, broken, fault}
 
 pub data FaultCode : ℕ → Type 0 where
   nothing : FaultCode 0
@@ -40,4 +40,5 @@ fault-code Put b v = broken-code (both (leb (length v) 384) (present changeGood 
 fault-code Delete b v = broken-code (both (isEmpty v) (present changeGood (b .keyValue)))
 fault-code GetKeyRange b v = broken-code (both (isEmpty v) (present rangeGood (b .range)))
 fault-code Setup b v = broken-code (both (isEmpty v) (isSome (b .setup)))
+fault-code GetLog b v = broken-code (both (isEmpty v) (present typesGood (b .getLog)))
 fault-code Security b v = security-code (both (isEmpty v) (present securityGood (b .security))) (present algorithmsGood (b .security))

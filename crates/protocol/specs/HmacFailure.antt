@@ -11,6 +11,7 @@ use Rattle.tree.specs.Tree.{listed}
 use Rattle.tree.specs.declared.Kind.the-variants.{Command}
 use Rattle.access.specs.Table.{tableGood}
 use Rattle.store.specs.Store.{storeGood}
+use Rattle.readings.specs.Lent.{readingsGood}
 use Rattle.signature.specs.Hmac.{hmac}
 use Rattle.protocol.specs.Frame.{frame, Fits}
 use Rattle.protocol.specs.State as lent
@@ -42,5 +43,5 @@ module _ (s : State) (m : List ℕ) (i : ℕ) (sig c : List ℕ) (sealed : readM
       → answers s out (frame m v ++ rest) ≡ answered (closingReply (s .connection .number) 2) (lent.closing s) (length (frame m v))
   failure-answered out v rest f h =
       let q = proved.answers box s out m v rest f failure-read in
-      q ∙ not-refused (ltb out 4096) (storeGood (s .store)) (tableGood (table s)) (s .connection .closed)
+      q ∙ not-refused (ltb out 4096) (storeGood (s .store)) (tableGood (table s)) (s .connection .closed) (readingsGood (s .readings))
       (answered (closingReply (s .connection .number) 2) (lent.closing s) (length (frame m v))) (λ n z. h n (q ∙ z))

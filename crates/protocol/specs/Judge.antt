@@ -2,11 +2,11 @@
 use mathlib.Core.Bool.{Bool, true, false, not}
 use mathlib.Core.List.{List, [], _∷_, reverse}
 use mathlib.Core.Option.{Option, none, some}
-use Prim.Native.Nat.{ℕ, _+_, _%_, _^_}
+use Prim.Native.Nat.{ℕ, _+_, _*_, _%_, _^_}
 use lib.Dec.{eqb, leb, ltb}
 use lib.ListN.{length, take, getD}
 use Rattle.wire.specs.Reader.{choose}
-use Rattle.tree.specs.Tree.{isSome}
+use Rattle.tree.specs.Tree.{guard, isSome, among}
 use Rattle.access.specs.Table as access
 use Rattle.access.specs.Table.{both, either, all, within, sameBytes, named, maskOf, tableGood}
 use Rattle.access.specs.Record.{tableBytes, withClusterVersion}
@@ -14,24 +14,40 @@ use Rattle.permission.specs.Permission.{permits, permitsAny, permitsRange}
 use Rattle.block.specs.Order.{cmp}
 use Rattle.block.specs.Block.{isLess, isEqual}
 use Rattle.block.specs.Entry.{Entry, entry, noEntry}
+use Rattle.store.specs.Store.{blocksIn}
 use Rattle.store.specs.Entries.{findIn, nextIn, previousIn, hasRoom, putStore, deleteStore}
 use Rattle.store.specs.declared.Found.{Found}
 use Rattle.store.specs.declared.Found.the-variants.{At, Gap}
 use Rattle.store.specs.declared.Place.{Place}
 use Rattle.store.specs.declared.Place.the-variants.{There, Nothing}
+use Rattle.binary32.specs.Binary32.{portion}
+use Rattle.readings.specs.Lent.{Sample, utilizations, temperatures, utilizationSample, temperatureSample}
 use Rattle.protocol.specs.declared.Operation.{Operation}
-use Rattle.protocol.specs.declared.Operation.the-variants.{Noop, Get, GetVersion, GetNext, GetPrevious, GetKeyRange, Put, Delete, FlushAllData, Setup, Security}
+use Rattle.protocol.specs.declared.Operation.the-variants.{Noop, Get, GetVersion, GetNext, GetPrevious, GetKeyRange, Put, Delete, FlushAllData, Setup, GetLog, Security}
 use Rattle.protocol.specs.declared.Asked.{Asked}
 use Rattle.protocol.specs.declared.Asked.the-variants.{Request, NotBuilt}
 use Rattle.protocol.specs.State.{State, table, entries, withStore, withDevice, accepted}
 use Rattle.protocol.specs.Command.{Header, KeyValue, Range, Scope, Acl, Body, Command, orElse, mapL}
 use Rattle.protocol.specs.Operation.{askedBy}
 
--- "Body only on success": nothing, a keyValue with key, version, tag and algorithm, or a range with its keys
+-- document 02, CR 1: nominalCapacityInBytes, and the 32 bits of portionFull
+pub record Capacity : Type 0 where
+  pub nominal : ℕ
+  pub portion : ℕ
+
+-- what a log shows: utilizations and temperatures, each a name and the 32 bits of its value if that is sent; the capacity; and whether the limits
+pub record Log : Type 0 where
+  pub utilizations : List Sample
+  pub temperatures : List Sample
+  pub capacity : Option Capacity
+  pub limits : Bool
+
+-- "Body only on success": nothing, a keyValue with key, version, tag and algorithm, a range with its keys, or a log
 pub data ReplyBody : Type 0 where
   bare : ReplyBody
   keyValue : List ℕ → List ℕ → List ℕ → ℕ → ReplyBody
   range : List (List ℕ) → ReplyBody
+  log : Log → ReplyBody
 
 -- what comes of a request: the status code, the body and the value part of the reply, and what is lent afterwards
 pub record Result : Type 0 where
@@ -107,6 +123,10 @@ unfoldable pub rangeGood : Range → Bool
 rangeGood r =
     both (present (λ k. leb (length k) 64) (r .startKey)) (both (present (λ k. leb (length k) 64) (r .endKey)) (leb (r .maxReturned) 32))
 
+-- document 02, CR 1: "no type, or a 3, 4 or 5, is INVALID_REQUEST at step 8"
+unfoldable pub typesGood : List ℕ → Bool
+typesGood ts = both (not (isEmpty ts)) (not (either (among 3 ts) (either (among 4 ts) (among 5 ts))))
+
 -- the table that a SECURITY asks for
 abbrev pub wantedScope : Scope → access.Scope
 wantedScope s = record { offset = s .offset; value = s .value; permissions = maskOf (s .permissions); tlsRequired = s .tlsRequired }
@@ -149,6 +169,7 @@ fault Put b v = broken (both (leb (length v) 384) (present changeGood (b .keyVal
 fault Delete b v = broken (both (isEmpty v) (present changeGood (b .keyValue)))
 fault GetKeyRange b v = broken (both (isEmpty v) (present rangeGood (b .range)))
 fault Setup b v = broken (both (isEmpty v) (isSome (b .setup)))
+fault GetLog b v = broken (both (isEmpty v) (present typesGood (b .getLog)))
 fault Security b v = choose (both (isEmpty v) (present securityGood (b .security))) (choose (present algorithmsGood (b .security)) 0 15) 16
 
 abbrev pub step8 : State → Operation → Body → List ℕ → Result → Result
@@ -173,7 +194,7 @@ abbrev pub rangePermitted : access.Acl → Bool → Range → Bool
 rangePermitted a protected r = permitsRange a protected (orElse [] (r .startKey)) (orElse [] (r .endKey))
 
 -- "READ 0: GET, GETVERSION, GETNEXT, GETPREVIOUS. WRITE 1: PUT. DELETE 2: DELETE. RANGE 3: GETKEYRANGE. SETUP 4, SECURITY 8 likewise.
--- NOOP and FLUSHALLDATA need none"
+-- NOOP and FLUSHALLDATA need none"; document 02: "permission GETLOG 7, any key"
 abbrev pub permitted : access.Acl → Bool → Operation → Body → Bool
 permitted a p Noop b = true
 permitted a p FlushAllData b = true
@@ -185,6 +206,7 @@ permitted a p Put b = permits a p 1 (keyValueIn b .key)
 permitted a p Delete b = permits a p 2 (keyValueIn b .key)
 permitted a p GetKeyRange b = rangePermitted a p (rangeIn b)
 permitted a p Setup b = permitsAny a p 4
+permitted a p GetLog b = permitsAny a p 7
 permitted a p Security b = permitsAny a p 8
 
 abbrev pub step9 : State → access.Acl → Operation → Body → Result → Result
@@ -262,6 +284,28 @@ abbrev pub setUp : State → Option ℕ → Result
 setUp s none = succeeds s bare []
 setUp s (some v) = succeeds (withDevice s (withClusterVersion (s .device) v)) bare []
 
+-- document 02, CR 1: "The capacity is 512 bytes a block. portionFull is used blocks divided by all blocks, rounded once"
+abbrev pub capacityOf : State → Capacity
+capacityOf s = record { nominal = 512 * blocksIn (s .store); portion = portion (length (entries s)) (blocksIn (s .store)) }
+
+-- a log with or without each of its parts; "readings in lent order"
+unfoldable pub logWith : State → Bool → Bool → Bool → Bool → Log
+logWith s utilized heated filled limited =
+    record {
+      utilizations = choose utilized (mapL utilizationSample (utilizations (s .readings))) [];
+      temperatures = choose heated (mapL temperatureSample (temperatures (s .readings))) [];
+      capacity = guard filled (capacityOf s);
+      limits = limited;
+    }
+
+-- "gives each asked type once": UTILIZATIONS 0, TEMPERATURES 1, CAPACITIES 2, LIMITS 6
+abbrev pub logOf : State → List ℕ → Log
+logOf s types = logWith s (among 0 types) (among 1 types) (among 2 types) (among 6 types)
+
+-- "else a 7 is NOT_FOUND at step 10"
+abbrev pub logged : State → List ℕ → Result
+logged s types = choose (among 7 types) (fails s 7) (succeeds s (log (logOf s types)) [])
+
 -- "SECURITY replaces the whole table"; the cluster version stays
 abbrev pub secure : State → List Acl → Result
 secure s acls = succeeds (withDevice s (tableBytes (wanted (table s .clusterVersion) acls))) bare []
@@ -277,6 +321,7 @@ step10 s Put b v = put s (keyValueIn b) v
 step10 s Delete b v = deleteBy s (keyValueIn b) (entryOf s (keyValueIn b .key))
 step10 s GetKeyRange b v = succeeds s (range (keysOf (rangeIn b) (entries s))) []
 step10 s Setup b v = setUp s (orElse none (b .setup))
+step10 s GetLog b v = logged s (orElse [] (b .getLog))
 step10 s Security b v = secure s (orElse [] (b .security))
 
 -- ---- steps 4 to 10, for the ACL of the identity, the command and the value part

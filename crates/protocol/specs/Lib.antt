@@ -27,5 +27,6 @@ pub mod ReplySize
 pub mod Demand3Shown
 pub mod Format
 pub mod FormatLaws
-pub mod Refusals
+pub mod CallRefusals
+pub mod LogLaws
 pub mod Puts

@@ -1,28 +1,53 @@
 -- What a reader of a reply finds in its command: the connection, the sequence, the type, the code and the body, each by a look-up.
-use Prim.Native.Nat.{ℕ}
-use mathlib.Core.Path.{_≡_, refl, ap, _∙_}
-use mathlib.Core.List.{List, [], append-nil}
+use Prim.Native.Nat.{ℕ, _+_, _*_, _/_, _%_}
+use native.Mathlib.Omega.{arith}
+use mathlib.Core.Path.{_≡_, refl, ap, ap₂, _∙_}
+use mathlib.Core.Bool.{Bool, true, false}
+use mathlib.Core.List.{List, [], _∷_, _++_, append-nil}
 use mathlib.Core.Option.{Option, none, some}
-use Rattle.tree.specs.Tree.{thenO, Tree, done, int, sub, intAt, rawAt, subAt, rawsAt}
-use Rattle.encoding.specs.Encode.{intO, intIf, rawIf, each}
-use Rattle.encoding.specs.LookUps.{int-past, int-here, intO-here, intO-past, intIf-here, rawIf-here, rawIf-past, int-rawIf, raw-intIf, each-here}
-use Rattle.protocol.specs.Command.{orElse}
-use Rattle.protocol.specs.Judge.{ReplyBody, bare, keyValue, range}
-use Rattle.protocol.specs.Reply.{headerTree, bodyTree, statusTree, commandTree, closingCommand}
+use Rattle.tree.specs.Tree.{mapO, thenO, guard, isSome, Tree, done, int, raw, fix, sub, intAt, rawAt, fixAt, subAt, rawsAt, subsAt}
+use Rattle.encoding.specs.Encode.{intO, intIf, rawIf, floatBytes, fixO, each, subO, eachSub}
+use Rattle.encoding.specs.LookUps.{raw-here, int-past, int-here, intO-here, intO-past, intIf-here, rawIf-here, rawIf-past, int-rawIf, raw-intIf, each-here, fixO-here, raw-fixO, subO-here, sub-subO, subs-subO, eachSub-here, sub-eachSub, subs-eachSub}
+use lib.ListN.{getD}
+use Rattle.readings.specs.Lent.{Sample}
+use Rattle.protocol.specs.Command.{orElse, mapL}
+use Rattle.protocol.specs.Judge.{Capacity, Log, ReplyBody, bare, keyValue, range, log}
+use Rattle.protocol.specs.Reply.{sampleTree, capacityTree, limitsTree, logTree, headerTree, bodyTree, statusTree, commandTree, closingCommand}
 
 -- a keyValue: "keyValue 3, 4, 5, 6, empty ones omitted"
 abbrev pub entryRead : Tree → ReplyBody
 entryRead t = keyValue (orElse [] (rawAt 3 t)) (orElse [] (rawAt 4 t)) (orElse [] (rawAt 5 t)) (orElse 0 (intAt 6 t))
 
--- the first of the two that is there: "The keyValue or range itself is there even when empty"
-abbrev pub partRead : Option Tree → Option Tree → ReplyBody
-partRead (some k) r = entryRead k
-partRead none (some r) = range (rawsAt 8 r)
-partRead none none = bare
+-- a float's 32 bits: the lowest byte first
+abbrev pub bitsOf : List ℕ → ℕ
+bitsOf b = getD b 0 0 + getD b 1 0 * 256 + getD b 2 0 * 65536 + getD b 3 0 * 16777216
+
+-- a log: utilizations 2 and temperatures 3, each a name and a value if it has one; capacity 4; whether it has limits 8
+abbrev pub sampleRead : Tree → Sample
+sampleRead t = record { name = orElse [] (rawAt 1 t); value = mapO bitsOf (fixAt 2 t) }
+
+abbrev pub capacityRead : Tree → Capacity
+capacityRead t = record { nominal = orElse 0 (intAt 4 t); portion = orElse 0 (mapO bitsOf (fixAt 5 t)) }
+
+abbrev pub logRead : Tree → Log
+logRead t =
+    record {
+      utilizations = mapL sampleRead (subsAt 2 t);
+      temperatures = mapL sampleRead (subsAt 3 t);
+      capacity = mapO capacityRead (subAt 4 t);
+      limits = isSome (subAt 8 t);
+    }
+
+-- the first of the three that is there: "The keyValue or range itself is there even when empty", and the getLog
+abbrev pub partRead : Option Tree → Option Tree → Option Tree → ReplyBody
+partRead (some k) r g = entryRead k
+partRead none (some r) g = range (rawsAt 8 r)
+partRead none none (some g) = log (logRead g)
+partRead none none none = bare
 
 abbrev pub bodyRead : Option Tree → ReplyBody
 bodyRead none = bare
-bodyRead (some b) = partRead (subAt 1 b) (subAt 2 b)
+bodyRead (some b) = partRead (subAt 1 b) (subAt 2 b) (subAt 6 b)
 
 -- what a command says as a reply
 pub record Found (t : Tree) (connection : ℕ) (ack type : Option ℕ) (body : ReplyBody) (code : ℕ) : Type 0 where
@@ -50,20 +75,72 @@ entry-found k v g a =
 keys-found : (ks : List (List ℕ)) → range (rawsAt 8 (each 8 ks done)) ≡ range ks
 keys-found ks = ap range (each-here 8 ks done ∙ append-nil ks)
 
+bits-back : (b : ℕ) → bitsOf (floatBytes b) ≡ b
+bits-back b = omega arith
+
+value-back : (o : Option ℕ) → mapO bitsOf (mapO floatBytes o) ≡ o
+value-back none = refl
+value-back (some b) = ap some (bits-back b)
+
+sample-back : (r : Sample) → sampleRead (sampleTree r) ≡ r
+sample-back r =
+    let t = fixO 2 (mapO floatBytes (r .value)) done in
+    let n : orElse [] (rawAt 1 (raw 1 (r .name) t)) ≡ r .name = ap (orElse []) (raw-here 1 (r .name) t (raw-fixO 1 2 (mapO floatBytes (r .value)) done)) in
+    let v : mapO bitsOf (fixAt 2 t) ≡ r .value = ap (mapO bitsOf) (fixO-here 2 (mapO floatBytes (r .value)) done refl) ∙ value-back (r .value) in
+    ap₂ (λ n v. record { name = n; value = v }) n v
+
+samples-back : (rs : List Sample) → mapL sampleRead (mapL sampleTree rs) ≡ rs
+unfolding mapL
+samples-back [] = refl
+samples-back (r ∷ rs) = ap₂ (λ x xs. x ∷ xs) (sample-back r) (samples-back rs)
+
+capacity-back : (o : Option Capacity) → mapO capacityRead (mapO capacityTree o) ≡ o
+capacity-back none = refl
+capacity-back (some c) = ap (λ b. some (record { nominal = c .nominal; portion = b })) (bits-back (c .portion))
+
+limits-back : (b : Bool) → isSome (guard b limitsTree) ≡ b
+limits-back true = refl
+limits-back false = refl
+
+log-found : (g : Log) → logRead (logTree g) ≡ g
+log-found g =
+    let us = mapL sampleTree (g .utilizations) in
+    let ts = mapL sampleTree (g .temperatures) in
+    let c = mapO capacityTree (g .capacity) in
+    let l = guard (g .limits) limitsTree in
+    let a = subO 8 l done in
+    let b = subO 4 c a in
+    let d = eachSub 3 ts b in
+    let e2 : subsAt 2 (eachSub 2 us d) ≡ us =
+    eachSub-here 2 us d ∙ ap (λ x. us ++ x) (subs-eachSub 2 3 ts b refl ∙ subs-subO 2 4 c a refl ∙ subs-subO 2 8 l done refl) ∙ append-nil us in
+    let e3 : subsAt 3 (eachSub 2 us d) ≡ ts =
+    subs-eachSub 3 2 us d refl ∙ eachSub-here 3 ts b ∙ ap (λ x. ts ++ x) (subs-subO 3 4 c a refl ∙ subs-subO 3 8 l done refl) ∙ append-nil ts in
+    let e4 : subAt 4 (eachSub 2 us d) ≡ c = sub-eachSub 4 2 us d refl ∙ sub-eachSub 4 3 ts b refl ∙ subO-here 4 c a (sub-subO 4 8 l done refl) in
+    let e8 : subAt 8 (eachSub 2 us d) ≡ l =
+    sub-eachSub 8 2 us d refl ∙ sub-eachSub 8 3 ts b refl ∙ sub-subO 8 4 c a refl ∙ subO-here 8 l done refl in
+    let u : mapL sampleRead (subsAt 2 (eachSub 2 us d)) ≡ g .utilizations = ap (mapL sampleRead) e2 ∙ samples-back (g .utilizations) in
+    let t : mapL sampleRead (subsAt 3 (eachSub 2 us d)) ≡ g .temperatures = ap (mapL sampleRead) e3 ∙ samples-back (g .temperatures) in
+    let q : mapO capacityRead (subAt 4 (eachSub 2 us d)) ≡ g .capacity = ap (mapO capacityRead) e4 ∙ capacity-back (g .capacity) in
+    let m : isSome (subAt 8 (eachSub 2 us d)) ≡ g .limits = ap (λ (o : Option Tree). isSome o) e8 ∙ limits-back (g .limits) in
+    λ i. record { utilizations = u i; temperatures = t i; capacity = q i; limits = m i }
+
 body-found : (b : ReplyBody) (code : ℕ) → bodyRead (subAt 2 (bodyTree b (statusTree code))) ≡ b
 body-found bare code = refl
 body-found (keyValue k v g a) code = entry-found k v g a
 body-found (range ks) code = keys-found ks
+body-found (log g) code = ap log (log-found g)
 
 code-found : (b : ReplyBody) (code : ℕ) → thenO (subAt 3 (bodyTree b (statusTree code))) (λ s. intAt 1 s) ≡ some code
 code-found bare code = refl
 code-found (keyValue k v g a) code = refl
 code-found (range ks) code = refl
+code-found (log g) code = refl
 
 header-found : (h : Tree) (b : ReplyBody) (code : ℕ) → subAt 1 (sub 1 h (bodyTree b (statusTree code))) ≡ some h
 header-found h bare code = refl
 header-found h (keyValue k v g a) code = refl
 header-found h (range ks) code = refl
+header-found h (log g) code = refl
 
 pub parts-found : (c : ℕ) (a : Option ℕ) (y : ℕ) (b : ReplyBody) (code : ℕ) → Found (commandTree c a y b code) c a (some y) b code
 parts-found c a y b code =

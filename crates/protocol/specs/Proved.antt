@@ -18,7 +18,7 @@ use Rattle.tree.specs.EqualButLaws.{int-equal, RawsBut, raw-equal, SubsBut, sub
 use Rattle.protocol.specs.Frame.{frame, Fits, frame-read}
 use Rattle.protocol.specs.Reading.{orEmpty, sameBytes, Envelope, envelope, sealed, isOne, envelopeOf, readMessage}
 use Rattle.protocol.specs.Reading.{Reading, closing, undecodable, read, decoded, verified, opened, readingBy}
-use Rattle.protocol.specs.Answer.{Reply, reply, Device, Outcome, refused, answered, taking, unlessRefused, reading, respond, serve, answer}
+use Rattle.protocol.specs.Answer.{Reply, reply, Device, Outcome, refused, answered, taking, unlessRefused, reading, respond, unlessReadings, serve, answer}
 use Rattle.protocol.specs.Demand.{Free, Edited, SameBut, Signed, SameAnswer, StrangeAnswer}
 use Rattle.tree.specs.declared.Kind.the-variants.{Message, Command}
 
@@ -134,19 +134,23 @@ module _ (hmac : List ℕ → List ℕ → List ℕ) (keyOf : ℕ → Option (Li
 taking-both : {S : Type 0} (r : Reply S) (a a' : ℕ) → SameBut a a' (taking a r) (taking a' r)
 taking-both (reply x s) a a' = inr (x, s, refl, refl)
 
-both : {S : Type 0} (t1 t2 t3 t4 : Bool) (r : Reply S) (a a' : ℕ) → SameBut a a' (unlessRefused t1 t2 t3 t4 (taking a r)) (unlessRefused t1 t2 t3 t4 (taking a' r))
-both true t2 t3 t4 r a a' = inl (1, refl, refl)
-both false false t3 t4 r a a' = inl (2, refl, refl)
-both false true false t4 r a a' = inl (3, refl, refl)
-both false true true true r a a' = inl (4, refl, refl)
-both false true true false r a a' = taking-both r a a'
+both : {S : Type 0} (t1 t2 t3 t4 t5 : Bool) (r : Reply S) (a a' : ℕ)
+    → SameBut a a' (unlessRefused t1 t2 t3 t4 (choose t5 (taking a r) (refused 7))) (unlessRefused t1 t2 t3 t4 (choose t5 (taking a' r) (refused 7)))
+both true t2 t3 t4 t5 r a a' = inl (1, refl, refl)
+both false false t3 t4 t5 r a a' = inl (2, refl, refl)
+both false true false t4 t5 r a a' = inl (3, refl, refl)
+both false true true true t5 r a a' = inl (4, refl, refl)
+both false true true false false r a a' = inl (7, refl, refl)
+both false true true false true r a a' = taking-both r a a'
 
-pub not-refused : {S : Type 0} (t1 t2 t3 t4 : Bool) (o : Outcome S) → ((n : ℕ) → unlessRefused t1 t2 t3 t4 o ≡ refused n → ⊥) → unlessRefused t1 t2 t3 t4 o ≡ o
-not-refused true t2 t3 t4 o h = absurd (h 1 refl)
-not-refused false false t3 t4 o h = absurd (h 2 refl)
-not-refused false true false t4 o h = absurd (h 3 refl)
-not-refused false true true true o h = absurd (h 4 refl)
-not-refused false true true false o h = refl
+pub not-refused : {S : Type 0} (t1 t2 t3 t4 t5 : Bool) (o : Outcome S) → ((n : ℕ) → unlessRefused t1 t2 t3 t4 (choose t5 o (refused 7)) ≡ refused n → ⊥)
+    → unlessRefused t1 t2 t3 t4 (choose t5 o (refused 7)) ≡ o
+not-refused true t2 t3 t4 t5 o h = absurd (h 1 refl)
+not-refused false false t3 t4 t5 o h = absurd (h 2 refl)
+not-refused false true false t4 t5 o h = absurd (h 3 refl)
+not-refused false true true true t5 o h = absurd (h 4 refl)
+not-refused false true true false false o h = absurd (h 7 refl)
+not-refused false true true false true o h = refl
 
 frame-length : (m v : List ℕ) → 9 + length m + length v ≡ length (frame m v)
 unfolding frame
@@ -154,14 +158,14 @@ frame-length m v = omega (arith, length-append m v)
 
 module _ (D : Device) where
   abbrev pub gate : D .State → ℕ → Outcome (D .State) → Outcome (D .State)
-  gate s out o = unlessRefused (ltb out 4096) (D .storeGood s) (D .recordGood s) (D .closed s) o
+  gate s out o = unlessRefused (ltb out 4096) (D .storeGood s) (D .recordGood s) (D .closed s) (unlessReadings D s o)
 
   -- past the refusals, the answer to a whole frame takes that frame and responds to what is read
   pub answers : (s : D .State) (out : ℕ) (m v rest : List ℕ) {r : Reading} → Fits m v → reading D s m ≡ r
       → answer D s out (frame m v ++ rest) ≡ gate s out (taking (length (frame m v)) (respond D s v r))
   unfolding answer
   answers s out m v rest {r} f e =
-      ap (λ x. gate s out (serve D s (length (frame m v ++ rest)) x)) (frame-read rest f)
+      ap (λ x. unlessRefused (ltb out 4096) (D .storeGood s) (D .recordGood s) (D .closed s) (serve D s (length (frame m v ++ rest)) x)) (frame-read rest f)
       ∙ ap (λ n. gate s out (taking n (respond D s v (reading D s m)))) (frame-length m v)
       ∙ ap (λ r. gate s out (taking (length (frame m v)) (respond D s v r))) e
 
@@ -187,7 +191,7 @@ module _ (D : Device) where
       let e' = same-reading s m m' e r g in (
         e',
         subst₂ (SameBut (length (frame m v)) (length (frame m' v))) (sym (answers s out m v rest f e)) (sym (answers s out m' v rest' f' e'))
-            (both (ltb out 4096) (D .storeGood s) (D .recordGood s) (D .closed s) (D .decide s i key t v) (length (frame m v)) (length (frame m' v))),
+            (both (ltb out 4096) (D .storeGood s) (D .recordGood s) (D .closed s) (D .readingsGood s) (D .decide s i key t v) (length (frame m v)) (length (frame m' v))),
       )
 
   pub strange-answer : StrangeAnswer D
@@ -195,6 +199,6 @@ module _ (D : Device) where
       let e' = strange-reading s m m' c e r g in
       let q = answers s out m' v rest' f' e' in (
         e',
-        q ∙ not-refused (ltb out 4096) (D .storeGood s) (D .recordGood s) (D .closed s) (answered (D .invalid s i key) s (length (frame m' v)))
+        q ∙ not-refused (ltb out 4096) (D .storeGood s) (D .recordGood s) (D .closed s) (D .readingsGood s) (answered (D .invalid s i key) s (length (frame m' v)))
             (λ n z. h n (q ∙ z)),
       )

@@ -14,8 +14,9 @@ use Rattle.encoding.specs.Basics.{never}
 use Rattle.access.specs.Table as access
 use Rattle.access.specs.Table.{tableGood}
 use Rattle.store.specs.Store.{storeGood}
+use Rattle.readings.specs.Lent.{readingsGood}
 use Rattle.signature.specs.Hmac.{hmac}
-use Rattle.protocol.specs.declared.Operation.the-variants.{Noop, Get, GetVersion, GetNext, GetPrevious, GetKeyRange, Put, Delete, FlushAllData, Setup, Security}
+use Rattle.protocol.specs.declared.Operation.the-variants.{Noop, Get, GetVersion, GetNext, GetPrevious, GetKeyRange, Put, Delete, FlushAllData, Setup, GetLog, Security}
 use Rattle.protocol.specs.declared.Asked.{Asked}
 use Rattle.protocol.specs.declared.Asked.the-variants.{Request, NotBuilt}
 use Rattle.protocol.specs.Frame.{Framing, more, closes, whole, frameOf}
@@ -24,7 +25,7 @@ use Rattle.protocol.specs.Command.{headerOf, commandOf}
 use Rattle.protocol.specs.Operation.{askedBy, replyType}
 use Rattle.protocol.specs.Judge.{judge}
 use Rattle.protocol.specs.Reading.{orEmpty, sameBytes, Envelope, envelope, sealed, isOne, envelopeOf, readMessage, Reading, closing, undecodable, read, decoded, verified, opened, readingBy}
-use Rattle.protocol.specs.Answer.{Outcome, answered, unlessRefused, reading, serve, respond, taking, answer}
+use Rattle.protocol.specs.Answer.{Outcome, refused, answered, unlessRefused, reading, serve, respond, taking, answer}
 use Rattle.protocol.specs.Box.{box, answers, aclOf, sequenceOf, typeOf, close, judged, decide}
 use Rattle.protocol.specs.Words.{Words, listed-words, int-word-at, sub-words-at}
 use Rattle.protocol.specs.Results.{judge-sent}
@@ -94,6 +95,7 @@ type-fits (Request Put) = known-type refl
 type-fits (Request Delete) = known-type refl
 type-fits (Request FlushAllData) = known-type refl
 type-fits (Request Setup) = known-type refl
+type-fits (Request GetLog) = known-type refl
 type-fits (Request Security) = known-type refl
 type-fits NotBuilt = known-type refl
 
@@ -120,50 +122,59 @@ pub record Replied (s : State) (f : Framing) (r : List ℕ) : Type 0 where
 abbrev Answers : Outcome State → Told → Type 0
 Answers o t = (r : List ℕ) (s : State) (n : ℕ) → o ≡ answered r s n → SaysTold r t
 
-module _ (s : State) (word : s .connection .number < 2 ^ 64) (good : storeGood (s .store) ≡ true) where
+module _ (s : State) (word : s .connection .number < 2 ^ 64) where
   closes-says : (n code : ℕ) → CodeNamed code → Answers (taking n (close s code)) (closed (s .connection .number) code)
   closes-says n code h r s' k e = subst (λ x. SaysTold x (closed (s .connection .number) code)) (cc) (closing-says (s .connection .number) code word h)
 
-  judged-says : (n i : ℕ) (key : List ℕ) (t : Tree) (v : List ℕ) (o : Option access.Acl) → i < 2 ^ 64 → Words t
-      → Answers (taking n (judged s i key (commandOf t) v o)) (toldBy s i key (commandOf t) v o)
-  judged-says n i key t v none h w r s' k e = closes-says n 2 (known-code refl) r s' k e
-  judged-says n i key t v (some a) h w r s' k e =
-      let j = judge-sent s a (commandOf t) v good in
-      subst (λ x. SaysTold x (told s i key (commandOf t) (judge s a (commandOf t) v))) (cc)
-      (signed-says (record {
-        identity-word = h;
-        connection-word = word;
-        ack-word = λ q z. sequence-word t w z;
-        type-fits = type-fits (askedBy (typeOf (commandOf t .header)));
-        body-good = j .body;
-        code-named = j .code;
-        value-short = j .value;
-      }) key)
+  module _ (good : storeGood (s .store) ≡ true) (lent : readingsGood (s .readings) ≡ true) where
+    judged-says : (n i : ℕ) (key : List ℕ) (t : Tree) (v : List ℕ) (o : Option access.Acl) → i < 2 ^ 64 → Words t
+        → Answers (taking n (judged s i key (commandOf t) v o)) (toldBy s i key (commandOf t) v o)
+    judged-says n i key t v none h w r s' k e = closes-says n 2 (known-code refl) r s' k e
+    judged-says n i key t v (some a) h w r s' k e =
+        let j = judge-sent s a (commandOf t) v good lent in
+        subst (λ x. SaysTold x (told s i key (commandOf t) (judge s a (commandOf t) v))) (cc)
+        (signed-says (record {
+          identity-word = h;
+          connection-word = word;
+          ack-word = λ q z. sequence-word t w z;
+          type-fits = type-fits (askedBy (typeOf (commandOf t .header)));
+          body-good = j .body;
+          code-named = j .code;
+          value-short = j .value;
+        }) key)
 
-  respond-says : (n : ℕ) (v : List ℕ) (r : Reading) → Readable r → Answers (taking n (respond box s v r)) (toldTo s v r)
-  unfolding decide
-  respond-says n v (closing code) h r s' k e = closes-says n code h r s' k e
-  respond-says n v (undecodable i key) h r s' k e =
-      subst (λ x. SaysTold x (toldTo s v (undecodable i key))) (cc)
-      (signed-says (record {
-        identity-word = h;
-        connection-word = word;
-        ack-word = λ q z. never (cc);
-        type-fits = type-fits NotBuilt;
-        body-good = bares;
-        code-named = known-code refl;
-        value-short = omega arith;
-      }) key)
-  respond-says n v (read i key t) h r s' k e = judged-says n i key t v (aclOf s i) (h .0) (h .1) r s' k e
+    respond-says : (n : ℕ) (v : List ℕ) (r : Reading) → Readable r → Answers (taking n (respond box s v r)) (toldTo s v r)
+    unfolding decide
+    respond-says n v (closing code) h r s' k e = closes-says n code h r s' k e
+    respond-says n v (undecodable i key) h r s' k e =
+        subst (λ x. SaysTold x (toldTo s v (undecodable i key))) (cc)
+        (signed-says (record {
+          identity-word = h;
+          connection-word = word;
+          ack-word = λ q z. never (cc);
+          type-fits = type-fits NotBuilt;
+          body-good = bares;
+          code-named = known-code refl;
+          value-short = omega arith;
+        }) key)
+    respond-says n v (read i key t) h r s' k e = judged-says n i key t v (aclOf s i) (h .0) (h .1) r s' k e
 
-  serve-says : (n : ℕ) (f : Framing) {r : List ℕ} {s' : State} {k : ℕ} → serve box s n f ≡ answered r s' k → Replied s f r
-  serve-says n more e = never (cc)
-  serve-says n closes {r} {s'} {k} e = record { told = closed (s .connection .number) 20; is = refl; says = closes-says n 20 (known-code refl) r s' k e }
-  serve-says n (whole m v rest) {r} {s'} {k} e =
+  -- readings that were not refused are good
+  unrefused : (t : Bool) (o : Outcome State) {r : List ℕ} {s' : State} {k : ℕ} → choose t o (refused 7) ≡ answered r s' k → (t ≡ true) × (o ≡ answered r s' k)
+  unrefused true o e = (refl, e)
+  unrefused false o e = never (cc)
+
+  serve-says : (n : ℕ) (f : Framing) {r : List ℕ} {s' : State} {k : ℕ} → storeGood (s .store) ≡ true → serve box s n f ≡ answered r s' k → Replied s f r
+  serve-says n more good e = never (cc)
+  serve-says n closes {r} {s'} {k} good e =
+      let p = unrefused (readingsGood (s .readings)) (taking n (close s 20)) e in
+      record { told = closed (s .connection .number) 20; is = refl; says = closes-says n 20 (known-code refl) r s' k (p .1) }
+  serve-says n (whole m v rest) {r} {s'} {k} good e =
+      let p = unrefused (readingsGood (s .readings)) (taking (9 + length m + length v) (respond box s v (reading box s m))) e in
       record {
         told = toldTo s v (reading box s m);
         is = refl;
-        says = respond-says (9 + length m + length v) v (reading box s m) (readable (box .keyOf s) m) r s' k e;
+        says = respond-says good (p .0) (9 + length m + length v) v (reading box s m) (readable (box .keyOf s) m) r s' k (p .1);
       }
 
 -- an answered call passed the refusals
@@ -182,4 +193,4 @@ pub reply-says : (s : State) (out : ℕ) (xs r : List ℕ) (s' : State) (n : ℕ
 unfolding answer
 reply-says s out xs r s' n word e =
     let p = passed (ltb out 4096) (storeGood (s .store)) (tableGood (table s)) (s .connection .closed) (serve box s (length xs) (frameOf xs)) e in
-    serve-says s word (p .0) (length xs) (frameOf xs) (p .1)
+    serve-says s word (length xs) (frameOf xs) (p .0) (p .1)

@@ -1,22 +1,44 @@
--- Document 01, "Replies": what a reply says, as trees, and its bytes: "Fields ascending, shortest varints."
+-- Document 01, "Replies": what a reply says, as trees, and its bytes: "Fields ascending, shortest varints." The log by document 02, CR 1.
 use mathlib.Core.List.{List, []}
 use mathlib.Core.Option.{Option}
 use Prim.Native.Nat.{ℕ}
-use Rattle.tree.specs.Tree.{Tree, done, int, raw, sub}
-use Rattle.encoding.specs.Encode.{encode, intO, intIf, rawIf, each}
+use Rattle.tree.specs.Tree.{mapO, guard, Tree, done, int, raw, fix, sub}
+use Rattle.encoding.specs.Encode.{encode, intO, intIf, rawIf, floatBytes, fixO, each, subO, eachSub}
 use Rattle.signature.specs.Hmac.{hmac}
 use Rattle.protocol.specs.Frame.{frame}
-use Rattle.protocol.specs.Judge.{ReplyBody, bare, keyValue, range}
+use Rattle.readings.specs.Lent.{Sample}
+use Rattle.protocol.specs.Command.{mapL}
+use Rattle.protocol.specs.Judge.{Capacity, Log, ReplyBody, bare, keyValue, range, log}
 
 -- "header 3 (the connection's number), 6, 7"; "Field 6 is the request's sequence, omitted if the command doesn't decode or has none"
 abbrev pub headerTree : ℕ → Option ℕ → ℕ → Tree
 headerTree connection ack type = int 3 connection (intO 6 ack (int 7 type done))
+
+-- a utilization (name 1, value 2) or a temperature (name 1, current 2): "A value that isn't finite … is omitted, its name still sent"
+abbrev pub sampleTree : Sample → Tree
+sampleTree r = raw 1 (r .name) (fixO 2 (mapO floatBytes (r .value)) done)
+
+-- "capacity (4: nominalCapacityInBytes 4 …, portionFull 5)": both are sent, whatever they are
+abbrev pub capacityTree : Capacity → Tree
+capacityTree c = int 4 (c .nominal) (fix 5 (floatBytes (c .portion)) done)
+
+-- "Limits show key 64, value 384, version 16, tag 32, message 8,192, range count 32, identities 8; others are omitted"
+abbrev pub limitsTree : Tree
+limitsTree = int 1 64 (int 2 384 (int 3 16 (int 4 32 (int 8 8192 (int 9 32 (int 10 8 done))))))
+
+-- "The reply omits field 1 (house)": utilizations 2, temperatures 3, capacity 4, limits 8
+abbrev pub logTree : Log → Tree
+logTree g =
+    eachSub 2 (mapL sampleTree (g .utilizations)) (eachSub 3 (mapL sampleTree (g .temperatures))
+    (subO 4 (mapO capacityTree (g .capacity)) (subO 8 (guard (g .limits) limitsTree) done)))
 
 -- "keyValue 3, 4, 5, 6, empty ones omitted"; "The keyValue or range itself is there even when empty"
 abbrev pub bodyTree : ReplyBody → Tree → Tree
 bodyTree bare t = t
 bodyTree (keyValue k v g a) t = sub 2 (sub 1 (rawIf 3 k (rawIf 4 v (rawIf 5 g (intIf 6 a done)))) done) t
 bodyTree (range ks) t = sub 2 (sub 2 (each 8 ks done) done) t
+-- "the GetLog … is there even when empty"
+bodyTree (log g) t = sub 2 (sub 6 (logTree g) done) t
 
 -- "status with SUCCESS (1) or the code in field 1"
 abbrev pub statusTree : ℕ → Tree

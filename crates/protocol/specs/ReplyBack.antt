@@ -1,28 +1,31 @@
 -- A reply whose parts are in range, read back by the field rules for replies, says what it was made of and nothing else.
 use Prim.Native.Nat.{ℕ, zero, suc, _+_, _^_, _≤_, _<_}
 use native.Mathlib.Omega.{arith}
-use mathlib.Core.Path.{_≡_, refl, sym, ap, _∙_}
+use mathlib.Core.Path.{_≡_, refl, sym, ap, _∙_, subst}
 use mathlib.Core.Bool.{Bool, true, false}
 use mathlib.Core.List.{List, [], _∷_, append-nil}
-use mathlib.Core.Option.{Option, some}
+use mathlib.Core.Option.{Option, none, some}
 use lib.ListN.{length, length-append}
 use lib.Dec.{ltb}
 use borrow.Author.Tests.{ltb-true}
 use Rattle.tree.specs.Rules.{namesOf}
-use Rattle.tree.specs.Tree.{isInt32, among, Tree, done, int, listed, rawAt}
-use Rattle.tree.specs.declared.Kind.the-variants.{Message, HmacAuth, Header, KeyValue, ReplyCommand, ReplyBody, ReplyRange, Status}
+use Rattle.tree.specs.Tree.{mapO, guard, isInt32, among, Tree, done, int, listed, rawAt}
+use Rattle.tree.specs.declared.Kind.{Kind}
+use Rattle.tree.specs.declared.Kind.the-variants.{Message, HmacAuth, Header, KeyValue, ReplyCommand, ReplyBody, ReplyRange, ReplyGetLog, Utilization, Temperature, Capacity, Limits, Status}
 use Rattle.tree.specs.declared.Names.the-variants.{Algorithm, StatusCode}
-use Rattle.encoding.specs.Encode.{encode, intIf, rawIf, each, FitsAfter, Fits, ends}
-use Rattle.encoding.specs.Cost.{cost, AtMost, encode-cost, intO-cost, intIf-cost, rawIf-cost, each-cost, total-most}
-use Rattle.encoding.specs.FitsLaws.{number, fit-int, fit-raw, fit-sub, fit-intO, fit-intIf, fit-rawIf, fit-each}
+use Rattle.encoding.specs.Encode.{encode, intIf, rawIf, floatBytes, fixO, each, subO, eachSub, FitsAfter, Fits, ends}
+use Rattle.encoding.specs.Cost.{cost, AtMost, CostMost, encode-cost, intO-cost, intIf-cost, rawIf-cost, fixO-cost, each-cost, subO-cost, eachSub-cost, total-most}
+use Rattle.encoding.specs.FitsLaws.{number, fit-int, fit-raw, fit-sub, fit-intO, fit-intIf, fit-rawIf, fit-fix, fit-fixO, fit-each, fit-subO, fit-eachSub, AllFit}
 use Rattle.encoding.specs.Back.{read-back}
 use Rattle.encoding.specs.Basics.{never, guarded}
 use Rattle.access.specs.Table.{both}
 use Rattle.protocol.specs.Frame.{frame, frameOf, whole, frame-read}
 use Rattle.protocol.specs.Judge as judging
-use Rattle.protocol.specs.Judge.{bare, keyValue, range}
+use Rattle.readings.specs.Lent.{Sample}
+use Rattle.protocol.specs.Command.{mapL}
+use Rattle.protocol.specs.Judge.{Log, bare, keyValue, range, log}
 use Rattle.protocol.specs.Digest.{hmac-length}
-use Rattle.protocol.specs.Reply.{headerTree, bodyTree, statusTree, commandTree, signedTree, closingCommand, closingTree, signedReply, closingReply}
+use Rattle.protocol.specs.Reply.{sampleTree, capacityTree, limitsTree, logTree, headerTree, bodyTree, statusTree, commandTree, signedTree, closingCommand, closingTree, signedReply, closingReply}
 
 both-true : (s t : Bool) → both s t ≡ true → (s ≡ true) × (t ≡ true)
 both-true true t h = (refl, h)
@@ -46,11 +49,25 @@ pub record TypeFits (type : ℕ) : Type 0 where
 pub known-type : {type : ℕ} → both (ltb type (2 ^ 64)) (isInt32 type) ≡ true → TypeFits type
 known-type {type} e = let p = both-true (ltb type (2 ^ 64)) (isInt32 type) e in record { word = ltb-true type (2 ^ 64) (p .0); enum = p .1 }
 
--- the parts of a body that a good store can give
+-- samples with names of at most 16 bytes
+abbrev pub ShortNames : List Sample → Type 0
+ShortNames [] = Unit {0}
+ShortNames (r ∷ rs) = (length (r .name) ≤ 16) × ShortNames rs
+
+-- the parts of a log that good readings and a good store can give
+pub record LogFits (g : Log) : Type 0 where
+  pub few-utilizations : length (g .utilizations) ≤ 2
+  pub few-temperatures : length (g .temperatures) ≤ 4
+  pub utilizations-named : ShortNames (g .utilizations)
+  pub temperatures-named : ShortNames (g .temperatures)
+  pub nominal-word : (c : judging.Capacity) → g .capacity ≡ some c → c .nominal < 2 ^ 64
+
+-- the parts of a body that a good store and good readings can give
 pub data BodyFits : judging.ReplyBody → Type 0 where
   bares : BodyFits bare
   keyValues : {k v g : List ℕ} {a : ℕ} → length k ≤ 64 → length v ≤ 16 → length g ≤ 32 → a ≤ 6 → BodyFits (keyValue k v g a)
   ranges : {ks : List (List ℕ)} → length ks ≤ 32 → AtMost 64 ks → BodyFits (range ks)
+  logs : {g : Log} → LogFits g → BodyFits (log g)
 
 -- r is one whole frame with the value part; its message says `message`, its commandBytes say `command`; and it is short
 pub record Says (r : List ℕ) (message command : Tree) (value : List ℕ) : Type 0 where
@@ -110,10 +127,100 @@ entry-fits k v g a hk hv hg ha =
 range-cost : (ks : List (List ℕ)) → length ks ≤ 32 → AtMost 64 ks → cost (each 8 ks done) ≤ 2528
 range-cost ks few short = omega (arith, each-cost 8 ks done, total-most 64 ks short)
 
+-- the samples of a log
+samples-cost : (rs : List Sample) → ShortNames rs → CostMost 40 (mapL sampleTree rs)
+unfolding mapL
+samples-cost [] h = record {}
+samples-cost (r ∷ rs) h = (omega (arith, h .0, fixO-cost 2 (mapO floatBytes (r .value)) done), samples-cost rs (h .1))
+
+samples-length : (rs : List Sample) → length (mapL sampleTree rs) ≡ length rs
+unfolding mapL
+samples-length [] = refl
+samples-length (r ∷ rs) = ap suc (samples-length rs)
+
+float-four : (o : Option ℕ) (b : List ℕ) → mapO floatBytes o ≡ some b → length b ≡ 4
+float-four none b e = never (cc)
+float-four (some v) b e = let q : floatBytes v ≡ b = cc in sym (ap length q)
+
+utilizations-fit : (rs : List Sample) → ShortNames rs → AllFit Utilization (mapL sampleTree rs)
+unfolding mapL
+utilizations-fit [] h = record {}
+utilizations-fit (r ∷ rs) h = (
+  fit-raw (number refl) (omega (arith, h .0)) refl (fit-fixO (mapO floatBytes (r .value)) (number refl) (λ b e. (float-four (r .value) b e, refl)) ends),
+  utilizations-fit rs (h .1),
+)
+
+temperatures-fit : (rs : List Sample) → ShortNames rs → AllFit Temperature (mapL sampleTree rs)
+unfolding mapL
+temperatures-fit [] h = record {}
+temperatures-fit (r ∷ rs) h = (
+  fit-raw (number refl) (omega (arith, h .0)) refl (fit-fixO (mapO floatBytes (r .value)) (number refl) (λ b e. (float-four (r .value) b e, refl)) ends),
+  temperatures-fit rs (h .1),
+)
+
+limits-fit : Fits Limits limitsTree
+limits-fit =
+    fit-int (number refl) (omega arith) refl (fit-int (number refl) (omega arith) refl (fit-int (number refl) (omega arith) refl
+    (fit-int (number refl) (omega arith) refl (fit-int (number refl) (omega arith) refl (fit-int (number refl) (omega arith) refl
+    (fit-int (number refl) (omega arith) refl ends))))))
+
+-- the capacity and the limits, where they are
+capacity-part : (o : Option judging.Capacity) → ((c : judging.Capacity) → o ≡ some c → c .nominal < 2 ^ 64) → (s : Tree) → mapO capacityTree o ≡ some s
+    → (cost s ≤ 24) × Fits Capacity s
+capacity-part none h s e = never (cc)
+capacity-part (some c) h s e =
+    let q : capacityTree c ≡ s = cc in
+    subst (λ t. (cost t ≤ 24) × Fits Capacity t) q (omega arith, fit-int (number refl) (h c refl) refl (fit-fix (number refl) refl refl ends))
+
+limits-part : (b : Bool) (s : Tree) → guard b limitsTree ≡ some s → (cost s ≤ 105) × Fits Limits s
+limits-part false s e = never (cc)
+limits-part true s e = let q : limitsTree ≡ s = cc in subst (λ t. (cost t ≤ 105) × Fits Limits t) q (omega arith, limits-fit)
+
+module _ {g : Log} (h : LogFits g) where
+  abbrev capacity-tree : Option Tree
+  capacity-tree = mapO capacityTree (g .capacity)
+
+  abbrev limits-tree : Option Tree
+  limits-tree = guard (g .limits) limitsTree
+
+  abbrev behind : Tree
+  behind = subO 4 capacity-tree (subO 8 limits-tree done)
+
+  behind-cost : cost behind ≤ 159
+  behind-cost =
+      omega (
+        arith,
+        subO-cost 4 24 capacity-tree (subO 8 limits-tree done) (λ s e. capacity-part (g .capacity) (h .nominal-word) s e .0),
+        subO-cost 8 105 limits-tree done (λ s e. limits-part (g .limits) s e .0),
+      )
+
+  log-cost : cost (logTree g) ≤ 489
+  log-cost =
+      let us = mapL sampleTree (g .utilizations) in
+      let ts = mapL sampleTree (g .temperatures) in
+      let a = eachSub-cost 2 40 us (eachSub 3 ts behind) (samples-cost (g .utilizations) (h .utilizations-named)) in
+      let b = eachSub-cost 3 40 ts behind (samples-cost (g .temperatures) (h .temperatures-named)) in
+      let u = samples-length (g .utilizations) in
+      let t = samples-length (g .temperatures) in
+      let fu = h .few-utilizations in
+      let ft = h .few-temperatures in
+      omega (arith, behind-cost)
+
+  log-fits : Fits ReplyGetLog (logTree g)
+  log-fits =
+      fit-eachSub Utilization 40 (mapL sampleTree (g .utilizations)) (number refl) (omega arith) (samples-cost (g .utilizations) (h .utilizations-named)) (λ s b. refl)
+      (utilizations-fit (g .utilizations) (h .utilizations-named))
+      (fit-eachSub Temperature 40 (mapL sampleTree (g .temperatures)) (number refl) (omega arith) (samples-cost (g .temperatures) (h .temperatures-named)) (λ s b. refl)
+      (temperatures-fit (g .temperatures) (h .temperatures-named))
+      (fit-subO Capacity capacity-tree (number refl)
+      (λ s e. let p = capacity-part (g .capacity) (h .nominal-word) s e in (omega (arith, p .0), p .1)) (λ b. refl)
+      (fit-subO Limits limits-tree (number refl) (λ s e. let p = limits-part (g .limits) s e in (omega (arith, p .0), p .1)) (λ b. refl) ends)))
+
 -- what a body adds to the cost of what follows it
 body-cost : {b : judging.ReplyBody} (t : Tree) → BodyFits b → cost (bodyTree b t) ≤ 2558 + cost t
 body-cost t bares = omega arith
 body-cost t (keyValues {k = k} {v = v} {g = g} {a = a} hk hv hg ha) = omega (arith, entry-cost k v g a hk hv hg)
+body-cost t (logs h) = omega (arith, log-cost h)
 body-cost t (ranges {ks = ks} few short) = omega (arith, range-cost ks few short)
 
 body-fits : {b : judging.ReplyBody} → BodyFits b → (code : ℕ) → CodeNamed code → FitsAfter ReplyCommand (1 ∷ []) (bodyTree b (statusTree code))
@@ -121,6 +228,10 @@ body-fits bares code h = status-fits code h (1 ∷ []) refl
 body-fits (keyValues {k = k} {v = v} {g = g} {a = a} hk hv hg ha) code h =
     fit-sub ReplyBody (number refl) (omega (arith, entry-cost k v g a hk hv hg)) refl
     (fit-sub KeyValue (number refl) (omega (arith, entry-cost k v g a hk hv hg)) refl (entry-fits k v g a hk hv hg ha) ends)
+    (status-fits code h (2 ∷ 1 ∷ []) refl)
+body-fits (logs g) code h =
+    fit-sub ReplyBody (number refl) (omega (arith, log-cost g)) refl
+    (fit-sub ReplyGetLog (number refl) (omega (arith, log-cost g)) refl (log-fits g) ends)
     (status-fits code h (2 ∷ 1 ∷ []) refl)
 body-fits (ranges {ks = ks} few short) code h =
     fit-sub ReplyBody (number refl) (omega (arith, range-cost ks few short)) refl

@@ -1,7 +1,7 @@
 -- What steps 4 to 10 give can be sent: a code that document 01 names, a body and a value part that fit.
-use Prim.Native.Nat.{ℕ, zero, suc, _≤_}
+use Prim.Native.Nat.{ℕ, zero, suc, _+_, _^_, _≤_, _<_}
 use native.Mathlib.Omega.{arith}
-use mathlib.Core.Path.{_≡_, refl}
+use mathlib.Core.Path.{_≡_, refl, ap, subst}
 use mathlib.Core.Bool.{Bool, true, false}
 use mathlib.Core.List.{List, [], _∷_, reverse, reverseAux}
 use mathlib.Core.Option.{Option, none, some}
@@ -9,29 +9,32 @@ use lib.Dec.{eqb, leb}
 use lib.ListN.{length, take, getD}
 use borrow.Author.Tests.{leb-true}
 use Rattle.wire.specs.Reader.{choose}
+use Rattle.tree.specs.Tree.{guard, among}
 use Rattle.encoding.specs.Cost.{AtMost}
 use Rattle.encoding.specs.Basics.{never}
 use Rattle.access.specs.Table as access
 use Rattle.access.specs.Table.{both}
 use Rattle.block.specs.Entry.{Entry, noEntry, Fit}
-use Rattle.store.specs.Store.{AllFit, storeGood}
+use Rattle.store.specs.Store.{blocksIn, AllFit, Good, storeGood}
 use Rattle.store.specs.Check.{store-decides}
 use Rattle.store.specs.Entries.{hasRoom, putStore, deleteStore, findIn, nextIn, previousIn}
+use Rattle.readings.specs.Lent.{Lent, Sample, placeAt, placesFrom, temperatures, utilizations, readingsGood, temperatureSample, utilizationSample}
+use Rattle.readings.specs.LentLaws.{Placed, name-bounds, good-temperatures, good-utilizations, temperatures-placed, utilizations-placed}
 use Rattle.store.specs.declared.Found.{Found}
 use Rattle.store.specs.declared.Found.the-variants.{At, Gap}
 use Rattle.store.specs.declared.Place.{Place}
 use Rattle.store.specs.declared.Place.the-variants.{There, Nothing}
 use Rattle.protocol.specs.declared.Operation.{Operation}
-use Rattle.protocol.specs.declared.Operation.the-variants.{Noop, Get, GetVersion, GetNext, GetPrevious, GetKeyRange, Put, Delete, FlushAllData, Setup, Security}
+use Rattle.protocol.specs.declared.Operation.the-variants.{Noop, Get, GetVersion, GetNext, GetPrevious, GetKeyRange, Put, Delete, FlushAllData, Setup, GetLog, Security}
 use Rattle.protocol.specs.declared.Asked.{Asked}
 use Rattle.protocol.specs.declared.Asked.the-variants.{Request, NotBuilt}
 use Rattle.protocol.specs.State.{State, table, entries, withStore, accepted}
-use Rattle.protocol.specs.Command.{Header, KeyValue, Range, Body, Command, orElse}
+use Rattle.protocol.specs.Command.{Header, KeyValue, Range, Body, Command, orElse, mapL}
 use Rattle.protocol.specs.Operation.{askedBy}
-use Rattle.protocol.specs.Judge.{ReplyBody, Result, bare, keyValue, range, fails, succeeds, bothThere, step4, aboveLast, step7, present, isEmpty, rangeGood, broken, fault, step8}
-use Rattle.protocol.specs.Judge.{noRange, keyValueIn, rangeIn, permitted, entryAt, entryThere, entryOf, shown, versionShown, versionRight, newEntry, changed, put, deleteBy, inRange, keysIn, keysOf, setUp, step10, judge}
+use Rattle.protocol.specs.Judge.{Capacity, ReplyBody, Result, bare, keyValue, range, log, fails, succeeds, bothThere, step4, aboveLast, step7, present, isEmpty, rangeGood, broken, fault, step8}
+use Rattle.protocol.specs.Judge.{noRange, keyValueIn, rangeIn, permitted, entryAt, entryThere, entryOf, shown, versionShown, versionRight, newEntry, changed, put, deleteBy, inRange, keysIn, keysOf, setUp, capacityOf, logWith, logOf, logged, step10, judge}
 use Rattle.protocol.specs.Faults.{FaultCode, nothing, no-algorithm, invalid, fault-code}
-use Rattle.protocol.specs.ReplyBack.{CodeNamed, known-code, BodyFits, bares, keyValues, ranges}
+use Rattle.protocol.specs.ReplyBack.{CodeNamed, known-code, ShortNames, LogFits, BodyFits, bares, keyValues, ranges, logs}
 
 -- a result that can be sent
 pub record Sendable (r : Result) : Type 0 where
@@ -200,34 +203,96 @@ setup-sent : (s : State) (o : Option ℕ) → Sendable (setUp s o)
 setup-sent s none = succeeding s bare [] bares (omega arith)
 setup-sent s (some v) = record { code = known-code refl; body = bares; value = omega arith }
 
-step10-sent : (s : State) (o : Operation) (b : Body) (v : List ℕ) → AllFit (entries s) → fault o b v ≡ 0 → Sendable (step10 s o b v)
-step10-sent s Noop b v fit e = succeeding s bare [] bares (omega arith)
-step10-sent s FlushAllData b v fit e = succeeding s bare [] bares (omega arith)
-step10-sent s Get b v fit e = shown-sent s (keyValueIn b .metadataOnly) (entryOf s (keyValueIn b .key)) (entry-at s fit (findIn (keyValueIn b .key) (entries s)))
-step10-sent s GetVersion b v fit e = version-sent s (entryOf s (keyValueIn b .key)) (entry-at s fit (findIn (keyValueIn b .key) (entries s)))
-step10-sent s GetNext b v fit e =
-    shown-sent s (keyValueIn b .metadataOnly) (entryThere s (nextIn (keyValueIn b .key) (entries s))) (entry-there s fit (nextIn (keyValueIn b .key) (entries s)))
-step10-sent s GetPrevious b v fit e =
-    shown-sent s (keyValueIn b .metadataOnly) (entryThere s (previousIn (keyValueIn b .key) (entries s))) (entry-there s fit (previousIn (keyValueIn b .key) (entries s)))
-step10-sent s Put b v fit e = put-sent s (keyValueIn b) v
-step10-sent s Delete b v fit e = delete-sent s (keyValueIn b) (entryOf s (keyValueIn b .key))
-step10-sent s GetKeyRange b v fit e =
-    range-sent s (rangeIn b) fit
+-- ---- the log of good readings
+
+-- what is sent of a reading has its name
+temperature-name : (r : Lent) → temperatureSample r .name ≡ r .name
+unfolding temperatureSample
+temperature-name r = refl
+
+utilization-name : (r : Lent) → utilizationSample r .name ≡ r .name
+unfolding utilizationSample
+utilization-name r = refl
+
+module _ (f : Lent → Sample) (kept : (r : Lent) → f r .name ≡ r .name) (l : List ℕ) where
+  names-short : (i n : ℕ) → ((j : ℕ) → j < n → Placed l (i + j)) → ShortNames (mapL f (placesFrom l i n))
+  unfolding mapL placesFrom
+  names-short i zero h = record {}
+  names-short i (suc n) h =
+      let z : i + 0 ≡ i = omega arith in
+      let p = subst (Placed l) z (h 0 (omega arith)) in
+      let e = ap length (kept (placeAt l i)) in (
+        omega (arith, e, name-bounds (placeAt l i .name) (p .named) .1),
+        names-short (i + 1) n (λ j k. let w : i + suc j ≡ i + 1 + j = omega arith in subst (Placed l) w (h (suc j) (omega arith))),
+      )
+
+  samples-few : (i n : ℕ) → length (mapL f (placesFrom l i n)) ≡ n
+  unfolding mapL placesFrom
+  samples-few i zero = refl
+  samples-few i (suc n) = ap suc (samples-few (i + 1) n)
+
+none-or : (t : Bool) (m : ℕ) (rs : List Sample) → length rs ≤ m → ShortNames rs → (length (choose t rs []) ≤ m) × ShortNames (choose t rs [])
+none-or true m rs h k = (h, k)
+none-or false m rs h k = (omega arith, record {})
+
+nominal-word : (s : State) (t : Bool) → blocksIn (s .store) ≤ 128 → (c : Capacity) → guard t (capacityOf s) ≡ some c → c .nominal < 2 ^ 64
+nominal-word s true h c e = let q : capacityOf s ≡ c = cc in omega (arith, ap (λ (x : Capacity). x .nominal) q)
+nominal-word s false h c e = never (cc)
+
+log-fits : (s : State) (a b c d : Bool) → readingsGood (s .readings) ≡ true → blocksIn (s .store) ≤ 128 → LogFits (logWith s a b c d)
+unfolding logWith
+log-fits s a b c d g h =
+    let l = s .readings in
+    let u = utilizations-placed l g in
+    let t = temperatures-placed l g in
+    let us = mapL utilizationSample (utilizations l) in
+    let ts = mapL temperatureSample (temperatures l) in
+    let p = none-or a 2 us (omega (arith, samples-few utilizationSample utilization-name l 4 (getD l 1 0), good-utilizations l g))
+    (names-short utilizationSample utilization-name l 4 (getD l 1 0) (u .each)) in
+    let q = none-or b 4 ts (omega (arith, samples-few temperatureSample temperature-name l 0 (getD l 0 0), good-temperatures l g))
+    (names-short temperatureSample temperature-name l 0 (getD l 0 0) (t .each)) in
+    record {
+      few-utilizations = p .0;
+      few-temperatures = q .0;
+      utilizations-named = p .1;
+      temperatures-named = q .1;
+      nominal-word = λ c' e. nominal-word s c h c' e;
+    }
+
+log-sent : (s : State) (types : List ℕ) → readingsGood (s .readings) ≡ true → blocksIn (s .store) ≤ 128 → Sendable (logged s types)
+log-sent s types g h =
+    choosing (among 7 types) (failing s _ (known-code refl))
+    (succeeding s (log (logOf s types)) [] (logs (log-fits s (among 0 types) (among 1 types) (among 2 types) (among 6 types) g h)) (omega arith))
+
+step10-sent : (s : State) (o : Operation) (b : Body) (v : List ℕ) → Good (s .store) → readingsGood (s .readings) ≡ true → fault o b v ≡ 0 → Sendable (step10 s o b v)
+step10-sent s Noop b v good r e = succeeding s bare [] bares (omega arith)
+step10-sent s FlushAllData b v good r e = succeeding s bare [] bares (omega arith)
+step10-sent s Get b v good r e = shown-sent s (keyValueIn b .metadataOnly) (entryOf s (keyValueIn b .key)) (entry-at s (good .fit) (findIn (keyValueIn b .key) (entries s)))
+step10-sent s GetVersion b v good r e = version-sent s (entryOf s (keyValueIn b .key)) (entry-at s (good .fit) (findIn (keyValueIn b .key) (entries s)))
+step10-sent s GetNext b v good r e =
+    shown-sent s (keyValueIn b .metadataOnly) (entryThere s (nextIn (keyValueIn b .key) (entries s))) (entry-there s (good .fit) (nextIn (keyValueIn b .key) (entries s)))
+step10-sent s GetPrevious b v good r e =
+    shown-sent s (keyValueIn b .metadataOnly) (entryThere s (previousIn (keyValueIn b .key) (entries s))) (entry-there s (good .fit) (previousIn (keyValueIn b .key) (entries s)))
+step10-sent s Put b v good r e = put-sent s (keyValueIn b) v
+step10-sent s Delete b v good r e = delete-sent s (keyValueIn b) (entryOf s (keyValueIn b .key))
+step10-sent s GetKeyRange b v good r e =
+    range-sent s (rangeIn b) (good .fit)
     (limit-present (b .range) (both-second (isEmpty v) (present rangeGood (b .range)) (unbroken (both (isEmpty v) (present rangeGood (b .range))) e)))
-step10-sent s Setup b v fit e = setup-sent s (orElse none (b .setup))
-step10-sent s Security b v fit e = record { code = known-code refl; body = bares; value = omega arith }
+step10-sent s Setup b v good r e = setup-sent s (orElse none (b .setup))
+step10-sent s GetLog b v good r e = log-sent s (orElse [] (b .getLog)) r (good .most)
+step10-sent s Security b v good r e = record { code = known-code refl; body = bares; value = omega arith }
 
--- ---- the whole judgement, over a good store
+-- ---- the whole judgement, over a good store and good readings
 
-pub judge-sent : (s : State) (a : access.Acl) (c : Command) (v : List ℕ) → storeGood (s .store) ≡ true → Sendable (judge s a c v)
+pub judge-sent : (s : State) (a : access.Acl) (c : Command) (v : List ℕ) → storeGood (s .store) ≡ true → readingsGood (s .readings) ≡ true → Sendable (judge s a c v)
 unfolding judge
-judge-sent s a c v good =
-    let fit = store-decides (s .store) .yes good .fit in
+judge-sent s a c v good r =
+    let g = store-decides (s .store) .yes good in
     step4-sent s (c .header) _ (λ h connection q.
     choosing (eqb (h .clusterVersion) (table s .clusterVersion))
     (choosing (both (eqb connection (s .connection .number)) (aboveLast q (s .connection .last)))
     (step7-sent (accepted s q) (askedBy (h .messageType)) _ (λ o.
     step8-sent (accepted s q) o (c .body) v _ (λ e.
-    choosing (permitted a (s .connection .protected) o (c .body)) (step10-sent (accepted s q) o (c .body) v fit e) (failing (accepted s q) _ (known-code refl)))))
+    choosing (permitted a (s .connection .protected) o (c .body)) (step10-sent (accepted s q) o (c .body) v g r e) (failing (accepted s q) _ (known-code refl)))))
     (failing s _ (known-code refl)))
     (failing s _ (known-code refl)))

@@ -1,4 +1,4 @@
--- What is lent to the box: the store, the device record and the connection. The one place that makes and changes a State.
+-- What is lent to the box: the store, the device record, the readings and the connection. The one place that makes and changes a State.
 use mathlib.Core.Bool.{Bool, true, false}
 use mathlib.Core.List.{List}
 use mathlib.Core.Option.{Option, none, some}
@@ -18,11 +18,13 @@ pub record Connection : Type 0 where
 pub record State : Type 0 where
   pub store : List ℕ
   pub device : List ℕ
+  -- document 02, CR 1: no call changes them
+  pub readings : List ℕ
   pub connection : Connection
 
--- the three together
-abbrev pub lent : List ℕ → List ℕ → Connection → State
-lent store device c = record { store = store; device = device; connection = c }
+-- the four together
+abbrev pub lent : List ℕ → List ℕ → List ℕ → Connection → State
+lent store device readings c = record { store = store; device = device; readings = readings; connection = c }
 
 abbrev pub table : State → Table
 table s = tableOf (s .device)
@@ -34,13 +36,13 @@ abbrev pub connected : ℕ → Bool → Connection
 connected n p = record { number = n; protected = p; closed = false; last = none }
 
 abbrev pub withStore : State → List ℕ → State
-withStore s l = record { store = l; device = s .device; connection = s .connection }
+withStore s l = record { store = l; device = s .device; readings = s .readings; connection = s .connection }
 
 abbrev pub withDevice : State → List ℕ → State
-withDevice s l = record { store = s .store; device = l; connection = s .connection }
+withDevice s l = record { store = s .store; device = l; readings = s .readings; connection = s .connection }
 
 abbrev pub withConnection : State → Connection → State
-withConnection s c = record { store = s .store; device = s .device; connection = c }
+withConnection s c = record { store = s .store; device = s .device; readings = s .readings; connection = c }
 
 abbrev pub shut : Connection → Connection
 shut c = record { number = c .number; protected = c .protected; closed = true; last = c .last }

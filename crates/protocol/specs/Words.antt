@@ -13,11 +13,11 @@ use Rattle.wire.specs.WireLaws.{varint-below}
 use Rattle.wire.specs.Wire.{Value, vint, v64, vlen, v32, Field, field, varint, valueOf, readField, consO, thenFields, fieldsIn, fieldsOf}
 use Rattle.encoding.specs.Basics.{never}
 use Rattle.tree.specs.Rules.{namesOf, strictOf, ruleOf}
-use Rattle.tree.specs.Tree.{mapO, thenO, guard, isSome, among, isInt32, Content, cInt, cRaw, cMsg, Item, item, ofInt, ofBytes, decode, find, add, byRule, step, items, itemsO, level}
-use Rattle.tree.specs.Tree.{Tree, done, int, raw, sub, openOne, openItem, openAll, listedIn, listed, later, intAt, join, joinO, subAt}
+use Rattle.tree.specs.Tree.{mapO, thenO, guard, isSome, among, isInt32, Content, cInt, cRaw, cFix, cMsg, Item, item, ofInt, ofBytes, ofFixed, decode, find, add, byRule, step, items, itemsO, level}
+use Rattle.tree.specs.Tree.{Tree, done, int, raw, fix, sub, openOne, openItem, openAll, listedIn, listed, later, intAt, join, joinO, subAt}
 use Rattle.tree.specs.declared.Kind.{Kind}
 use Rattle.tree.specs.declared.Form.{Form}
-use Rattle.tree.specs.declared.Form.the-variants.{Int64, Int32, Named, Flag, Bytes, Opaque, Nested}
+use Rattle.tree.specs.declared.Form.the-variants.{Int64, Int32, Named, Flag, Bytes, Opaque, Float, Nested}
 use Rattle.tree.specs.declared.Rule.{Rule}
 use Rattle.tree.specs.declared.Rule.the-variants.{Unlisted, Refused, Single, Repeated}
 
@@ -98,6 +98,7 @@ fields-words (suc n) (b ∷ xs) {fs} e = go (readField (b ∷ xs)) refl e (λ r 
 abbrev WordContent : Content → Type 0
 WordContent (cInt v) = v < 2 ^ 64
 WordContent (cRaw b) = Unit {0}
+WordContent (cFix b) = Unit {0}
 WordContent (cMsg k b) = Unit {0}
 
 abbrev WordItem : Item → Type 0
@@ -125,6 +126,7 @@ int-word (Named n) v h e = guard-word (among v (namesOf n)) v h e
 int-word Flag v h e = some-word (cInt (choose (eqb v 0) 0 1)) (flag-word (eqb v 0)) e
 int-word Bytes v h e = never (cc)
 int-word Opaque v h e = never (cc)
+int-word Float v h e = never (cc)
 int-word (Nested k) v h e = never (cc)
 
 bytes-word : (f : Form) (b : List ℕ) {c : Content} → ofBytes f b ≡ some c → WordContent c
@@ -134,13 +136,24 @@ bytes-word (Named n) b e = never (cc)
 bytes-word Flag b e = never (cc)
 bytes-word Bytes b e = some-word (cRaw b) (record {}) e
 bytes-word Opaque b e = some-word (cRaw []) (record {}) e
+bytes-word Float b e = never (cc)
 bytes-word (Nested k) b e = some-word (cMsg k b) (record {}) e
+
+fixed-word : (f : Form) (b : List ℕ) {c : Content} → ofFixed f b ≡ some c → WordContent c
+fixed-word Int64 b e = never (cc)
+fixed-word Int32 b e = never (cc)
+fixed-word (Named n) b e = never (cc)
+fixed-word Flag b e = never (cc)
+fixed-word Bytes b e = never (cc)
+fixed-word Opaque b e = never (cc)
+fixed-word Float b e = some-word (cFix b) (record {}) e
+fixed-word (Nested k) b e = never (cc)
 
 decode-word : (f : Form) (v : Value) {c : Content} → WordValue v → decode f v ≡ some c → WordContent c
 decode-word f (vint v) h e = int-word f v h e
 decode-word f (v64 b) h e = never (cc)
 decode-word f (vlen b) h e = bytes-word f b e
-decode-word f (v32 b) h e = never (cc)
+decode-word f (v32 b) h e = fixed-word f b e
 
 items-append : (a b : List Item) → WordItems a → WordItems b → WordItems (a ++ b)
 items-append [] b h k = k
@@ -191,6 +204,7 @@ abbrev pub Words : Tree → Type 0
 Words done = Unit {0}
 Words (int n v t) = (v < 2 ^ 64) × Words t
 Words (raw n b t) = Words t
+Words (fix n b t) = Words t
 Words (sub n s t) = Words s × Words t
 
 some-tree : (t : Tree) {u : Tree} → Words t → some t ≡ some u → Words u
@@ -205,6 +219,7 @@ open-word below f (item n c ∷ is) {t} h e = go (openAll below is) (λ u q. ope
     one : (c : Content) (u : Tree) → WordContent c → Words u → openOne below n c u ≡ some t → Words t
     one (cInt v) u w x q = some-tree (int n v u) (w, x) q
     one (cRaw b) u w x q = some-tree (raw n b u) x q
+    one (cFix b) u w x q = some-tree (fix n b u) x q
     one (cMsg k b) u w x q = deeper (below k b) (f k b) q
       where
         deeper : (o : Option Tree) → ((s : Tree) → o ≡ some s → Words s) → mapO (λ s. sub n s u) o ≡ some t → Words t
@@ -240,18 +255,21 @@ int-word-at n (int m w t) {v} h e = go (intAt n t) (eqb n m) (λ x q. int-word-a
     go none false f q = never (cc)
     go (some x) b f q = let z : x ≡ v = cc in omega (arith, f x refl)
 int-word-at n (raw m b t) h e = int-word-at n t h e
+int-word-at n (fix m b t) h e = int-word-at n t h e
 int-word-at n (sub m s t) h e = int-word-at n t (h .1) e
 
 join-words : (s t : Tree) → Words s → Words t → Words (join s t)
 join-words done t h k = k
 join-words (int n v s) t h k = (h .0, join-words s t (h .1) k)
 join-words (raw n b s) t h k = join-words s t h k
+join-words (fix n b s) t h k = join-words s t h k
 join-words (sub n u s) t h k = (h .0, join-words s t (h .1) k)
 
 pub sub-words-at : (n : ℕ) (t : Tree) {u : Tree} → Words t → subAt n t ≡ some u → Words u
 sub-words-at n done h e = never (cc)
 sub-words-at n (int m v t) h e = sub-words-at n t (h .1) e
 sub-words-at n (raw m b t) h e = sub-words-at n t h e
+sub-words-at n (fix m b t) h e = sub-words-at n t h e
 sub-words-at n (sub m s t) {u} h e = go (subAt n t) (eqb n m) (λ x q. sub-words-at n t (h .1) q) e
   where
     go : (o : Option Tree) (b : Bool) → ((x : Tree) → o ≡ some x → Words x) → joinO b s o ≡ some u → Words u

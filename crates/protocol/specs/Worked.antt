@@ -54,6 +54,7 @@ asking k = record {
   keyValue = some (record { newVersion = []; key = k; dbVersion = []; tag = []; algorithm = 0; metadataOnly = false; force = false });
   range = none;
   setup = none;
+  getLog = none;
   security = none;
 }
 
@@ -65,6 +66,7 @@ ranging r = record {
   keyValue = none;
   range = some r;
   setup = none;
+  getLog = none;
   security = none;
 }
 

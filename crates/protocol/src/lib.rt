@@ -10,6 +10,7 @@ pub enum Operation {
     Delete,
     FlushAllData,
     Setup,
+    GetLog,
     Security,
 }
 

@@ -14,6 +14,7 @@ ghost use Rattle.access.specs.declared.Found.the-variants.{At};
 ghost use Rattle.access.specs.Record.{tableOf, Placed};
 ghost use Rattle.signature.specs.Hmac.{hmac};
 ghost use Rattle.store.specs.Store.{Good};
+ghost use Rattle.readings.specs.Lent.{readingsGood};
 ghost use Rattle.protocol.specs.State.{lent};
 ghost use Rattle.protocol.specs.Reading.{verified};
 ghost use Rattle.protocol.specs.Answer.{reading, respond};
@@ -24,7 +25,7 @@ ghost use Rattle.sending.specs.Sent.{Sent};
 // The closing reply with a code.
 pub fn close(connection: Connection, out: &mut [u8], code: u64) -> Replied
     requires { ⌜ 4096 ≤ length (now out) ⌝ }
-    ensures { λ r. ⌜ ((store device : List ℕ) → Sent (close (lent store device (connectionOf connection)) code) (r .written) (now (out .entry)) (now (out .exit)) (lent store device (connectionOf (r .connection)))) ⌝ }
+    ensures { λ r. ⌜ ((store device readings : List ℕ) → Sent (close (lent store device readings (connectionOf connection)) code) (r .written) (now (out .entry)) (now (out .exit)) (lent store device readings (connectionOf (r .connection)))) ⌝ }
 {
     Replied {
         written: replies::put_closing(out, connection.number, code),
@@ -44,6 +45,7 @@ fn copy_key(device: &Record, place: usize, key: &mut [u8]) -> usize
 fn verify(
     store: &mut [u8],
     device: &mut Record,
+    readings: &[u8],
     place: usize,
     connection: Connection,
     identity: u64,
@@ -52,8 +54,8 @@ fn verify(
     value: &[u8],
     out: &mut [u8],
 ) -> Replied
-    requires { ⌜ (4096 ≤ length (now out)) × Good (now store) × (tableGood (tableOf (now device)) ≡ true) × (placeOf (tableOf (now device)) identity ≡ At place) × (length (now s) ≤ 8192) ⌝ }
-    ensures { λ r. ⌜ Sent (respond box (lent (now (store .entry)) (now (device .entry)) (connectionOf connection)) (now (value .entry)) (verified hmac (box .keyOf (lent (now (store .entry)) (now (device .entry)) (connectionOf connection))) identity (now (sent .entry)) (now (s .entry)) (some (aclOf (tableOf (now (device .entry))) place .key)))) (r .written) (now (out .entry)) (now (out .exit)) (lent (now (store .exit)) (now (device .exit)) (connectionOf (r .connection))) ⌝ }
+    requires { ⌜ (4096 ≤ length (now out)) × Good (now store) × (tableGood (tableOf (now device)) ≡ true) × (placeOf (tableOf (now device)) identity ≡ At place) × (length (now s) ≤ 8192) × (readingsGood (now readings) ≡ true) ⌝ }
+    ensures { λ r. ⌜ Sent (respond box (lent (now (store .entry)) (now (device .entry)) (now (readings .entry)) (connectionOf connection)) (now (value .entry)) (verified hmac (box .keyOf (lent (now (store .entry)) (now (device .entry)) (now (readings .entry)) (connectionOf connection))) identity (now (sent .entry)) (now (s .entry)) (some (aclOf (tableOf (now (device .entry))) place .key)))) (r .written) (now (out .entry)) (now (out .exit)) (lent (now (store .exit)) (now (device .exit)) (now (readings .entry)) (connectionOf (r .connection))) ⌝ }
 {
     if !signature::verify(access::key_of(device, place), s, sent) {
         return close(connection, out, 2);
@@ -63,6 +65,7 @@ fn verify(
     decisions::decide(
         store,
         device,
+        readings,
         place,
         connection,
         identity,
@@ -77,13 +80,14 @@ fn verify(
 pub fn respond(
     store: &mut [u8],
     device: &mut Record,
+    readings: &[u8],
     connection: Connection,
     message: &[u8],
     value: &[u8],
     out: &mut [u8],
 ) -> Replied
-    requires { ⌜ (4096 ≤ length (now out)) × Good (now store) × (tableGood (tableOf (now device)) ≡ true) × (length (now message) ≤ 8192) ⌝ }
-    ensures { λ r. ⌜ Sent (respond box (lent (now (store .entry)) (now (device .entry)) (connectionOf connection)) (now (value .entry)) (reading box (lent (now (store .entry)) (now (device .entry)) (connectionOf connection)) (now (message .entry)))) (r .written) (now (out .entry)) (now (out .exit)) (lent (now (store .exit)) (now (device .exit)) (connectionOf (r .connection))) ⌝ }
+    requires { ⌜ (4096 ≤ length (now out)) × Good (now store) × (tableGood (tableOf (now device)) ≡ true) × (length (now message) ≤ 8192) × (readingsGood (now readings) ≡ true) ⌝ }
+    ensures { λ r. ⌜ Sent (respond box (lent (now (store .entry)) (now (device .entry)) (now (readings .entry)) (connectionOf connection)) (now (value .entry)) (reading box (lent (now (store .entry)) (now (device .entry)) (now (readings .entry)) (connectionOf connection)) (now (message .entry)))) (r .written) (now (out .entry)) (now (out .exit)) (lent (now (store .exit)) (now (device .exit)) (now (readings .entry)) (connectionOf (r .connection))) ⌝ }
 {
     let m = messages::read_message(message);
     let ok = m.ok;
@@ -99,6 +103,7 @@ pub fn respond(
         Found::At(place) => verify(
             store,
             device,
+            readings,
             place,
             connection,
             identity,

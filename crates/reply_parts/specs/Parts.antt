@@ -8,14 +8,15 @@ use Rattle.encoding.specs.Encode.{intField, head, lenField, encode, intO, intIf
 use Rattle.writers.specs.Pushed.{Pushed}
 use Rattle.writers.specs.PushedLaws.{_onto_, again, pushed-sub}
 use Rattle.writers.specs.TreeParts.{int-last, sub-last, int-pushed, intO-pushed, rawIf-pushed}
-use Rattle.protocol.specs.Judge.{ReplyBody, bare, keyValue, range}
-use Rattle.protocol.specs.Reply.{headerTree, bodyTree, statusTree, commandTree}
+use Rattle.protocol.specs.Judge.{ReplyBody, bare, keyValue, range, log}
+use Rattle.protocol.specs.Reply.{headerTree, logTree, bodyTree, statusTree, commandTree}
 
 -- the bytes of a body
 abbrev pub bodyBytes : ReplyBody → List ℕ
 bodyBytes bare = []
 bodyBytes (keyValue k v g a) = lenField 2 (encode (sub 1 (rawIf 3 k (rawIf 4 v (rawIf 5 g (intIf 6 a done)))) done))
 bodyBytes (range ks) = lenField 2 (encode (sub 2 (each 8 ks done) done))
+bodyBytes (log g) = lenField 2 (encode (sub 6 (logTree g) done))
 
 pub header-law : {r c b a at : ℕ} {l m1 m2 m3 n : List ℕ} (connection : ℕ) (ack : Option ℕ) (type : ℕ) → Pushed r c (head 1 (at - c)) m3 n
     → Pushed c b (intField 3 connection) m2 m3 → Pushed b a (encode (intO 6 ack done)) m1 m2 → Pushed a at (intField 7 type) l m1
@@ -43,6 +44,7 @@ unfolding encode
 body-parts bare t = refl
 body-parts (keyValue k v g a) t = refl
 body-parts (range ks) t = refl
+body-parts (log g) t = refl
 
 -- a command: header, body, status
 pub command-law : {r b a at : ℕ} {l m1 m2 n : List ℕ} (connection : ℕ) (ack : Option ℕ) (type : ℕ) (body : ReplyBody) (code : ℕ)

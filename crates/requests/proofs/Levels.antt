@@ -14,7 +14,7 @@ use Rattle.lookups.specs.LevelLaws.{tree-is}
 use Rattle.lookups.specs.declared.parts.Num.{Num}
 use Rattle.lookups.specs.declared.parts.Part.{Part}
 use Rattle.lookups.proofs.Slotted.{sub-view, nil-at, nil-reads}
-use Rattle.protocol.specs.Command.{orElse, noBody, headerOf, keyValueOf, rangeOf, setupOf, securityOf, bodyOf, commandOf}
+use Rattle.protocol.specs.Command.{orElse, noBody, headerOf, keyValueOf, rangeOf, setupOf, typesOf, securityOf, bodyOf, commandOf}
 use Rattle.protocol.specs.Judge.{noKeyValue, noRange}
 use Rattle.requests.proofs.Algorithm.{algorithm-most}
 use Rattle.requests.specs.Views.{headerView, keyValueView, rangeView, bodyView, requestView}
@@ -75,17 +75,19 @@ module _ (s : List ℕ) (a : Part) (o : Option Tree) where
       → orElse [] (orElse noRange (guard (a .has) (rangeView s x)) .endKey) ≡ bytesAt s (x .end)
   end-there x u e l = bytes-there rangeOf noRange (λ v. orElse [] (v .endKey)) refl k.Range s a o (rangeView s x) (x .end) u e l refl
 
-pub body-law : (s : List ℕ) (u : Tree) (a b c z : Part) (x : KeyValue) (y : Range) (w : Num)
+pub body-law : (s : List ℕ) (u : Tree) (a b c d z : Part) (x : KeyValue) (y : Range) (w : Num)
     → Sub k.KeyValue s a (subAt 1 u) → keyValueView s x ≡ keyValueOf (treeOf k.KeyValue (bytesAt s a))
     → Sub k.Range s b (subAt 2 u) → rangeView s y ≡ rangeOf (treeOf k.Range (bytesAt s b))
     → Sub k.Setup s c (subAt 3 u) → numView w ≡ setupOf (treeOf k.Setup (bytesAt s c))
+    → Sub k.GetLog s d (subAt 6 u)
     → Sub k.Security s z (subAt 7 u)
-    → bodyView s (record { keyed = a .has; entry = x; ranged = b .has; range = y; changed = c .has; cluster = w; security = z }) ≡ bodyOf u
-body-law s u a b c z x y w p e q f r g v =
+    → bodyView s (record { keyed = a .has; entry = x; ranged = b .has; range = y; changed = c .has; cluster = w; log = d; security = z }) ≡ bodyOf u
+body-law s u a b c d z x y w p e q f r g h v =
     rw (
       sub-view keyValueOf (keyValueView s x) p e,
       sub-view rangeOf (rangeView s y) q f,
       sub-view setupOf (numView w) r g,
+      sub-view typesOf (typesOf (treeOf k.GetLog (bytesAt s d))) h refl,
       sub-view securityOf (securityOf (treeOf k.Security (bytesAt s z))) v refl,
     ) refl
 

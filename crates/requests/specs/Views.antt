@@ -5,10 +5,10 @@ use mathlib.Core.List.{List, []}
 use mathlib.Core.Option.{Option}
 use Prim.Native.Nat.{ℕ, _≤_}
 use Rattle.tree.specs.Tree.{guard}
-use Rattle.tree.specs.declared.Kind.the-variants.{Security}
+use Rattle.tree.specs.declared.Kind.the-variants.{GetLog, Security}
 use Rattle.lookups.specs.Views.{numView, partView, bytesAt, Lies, Reads, treeOf}
 use Rattle.protocol.specs.Command as c
-use Rattle.protocol.specs.Command.{orElse, flag, securityOf}
+use Rattle.protocol.specs.Command.{orElse, flag, typesOf, securityOf}
 use Rattle.protocol.specs.Judge.{keyValueIn, rangeIn}
 use Rattle.requests.specs.declared.Header.{Header}
 use Rattle.requests.specs.declared.KeyValue.{KeyValue}
@@ -61,13 +61,14 @@ pub record RangeLies (s : List ℕ) (r : Range) : Type 0 where
   pub start : Lies s (r .start)
   pub end : Lies s (r .end)
 
--- where there is no security part the empty one stands for it, which decodes
+-- where there is no getLog or security part the empty one stands for it, which decodes
 abbrev pub bodyView : List ℕ → Body → c.Body
 bodyView s b =
     record {
       keyValue = guard (b .keyed) (keyValueView s (b .entry));
       range = guard (b .ranged) (rangeView s (b .range));
       setup = guard (b .changed) (numView (b .cluster));
+      getLog = guard (b .log .has) (typesOf (treeOf GetLog (bytesAt s (b .log))));
       security = guard (b .security .has) (securityOf (treeOf Security (bytesAt s (b .security))));
     }
 
@@ -75,6 +76,8 @@ bodyView s b =
 pub record BodyLies (s : List ℕ) (b : Body) : Type 0 where
   pub entry : KeyValueLies s (b .entry)
   pub range : RangeLies s (b .range)
+  pub log : Lies s (b .log)
+  pub logReads : Reads GetLog (bytesAt s (b .log))
   pub security : Lies s (b .security)
   pub reads : Reads Security (bytesAt s (b .security))
   pub key : keyValueIn (bodyView s b) .key ≡ bytesAt s (b .entry .key)

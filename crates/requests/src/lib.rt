@@ -46,7 +46,7 @@ pub struct Range {
     pub reverse: Num,
 }
 
-// The parts of a body, each with whether it is there: keyValue, range, setup (its newClusterVersion) and security.
+// The parts of a body, each with whether it is there: keyValue, range, setup (its newClusterVersion), getLog and security.
 pub struct Body {
     pub keyed: bool,
     pub entry: KeyValue,
@@ -54,6 +54,7 @@ pub struct Body {
     pub range: Range,
     pub changed: bool,
     pub cluster: Num,
+    pub log: Part,
     pub security: Part,
 }
 
@@ -127,6 +128,7 @@ fn read_body(s: &[u8], p: Part) -> Body
     let a = part_of(s, p, t, 1);
     let b = part_of(s, p, t, 2);
     let c = part_of(s, p, t, 3);
+    let log = part_of(s, p, t, 6);
     let security = part_of(s, p, t, 7);
     let entry = read_key_value(s, a);
     let range = read_range(s, b);
@@ -138,6 +140,7 @@ fn read_body(s: &[u8], p: Part) -> Body
         range,
         changed: c.has,
         cluster,
+        log,
         security,
     }
 }
@@ -193,6 +196,7 @@ fn no_body() -> Body
         },
         changed: false,
         cluster: none,
+        log: empty,
         security: empty,
     }
 }

@@ -1,9 +1,12 @@
 -- What a response leaves, one law for each way that the call goes.
 use mathlib.Core.Path.{_≡_, sym, ap, subst, _∙_}
+use mathlib.Core.Bool.{Bool, true, false}
 use mathlib.Core.List.{List, _++_}
 use Prim.Native.Nat.{ℕ, _+_, _-_, _≤_}
 use native.Mathlib.Omega.{arith}
 use lib.ListN.{length, take, drop, length-take, length-drop}
+use Rattle.wire.specs.Reader.{choose}
+use Rattle.readings.specs.Lent.{readingsGood}
 use Rattle.protocol.specs.State.{State}
 use Rattle.protocol.specs.Frame.{Framing, more, closes, whole, frameOf}
 use Rattle.protocol.specs.Answer.{Outcome, refused, Reply, reply, taking, reading, respond, serve}
@@ -19,7 +22,7 @@ module _ (s : State) (out xs : List ℕ) where
   outcome = answers s (length out) xs
 
   abbrev Told : Response → Type 0
-  Told r = called (s .connection) r (s .store) (s .device) out ≡ afterwards s out outcome
+  Told r = called (s .connection) (s .readings) r (s .store) (s .device) out ≡ afterwards s out outcome
 
   pub told-out-short : outcome ≡ refused 1 → Told OutShort
   told-out-short e = ap (afterwards s out) (sym e)
@@ -54,23 +57,40 @@ module _ (s : State) (out xs : List ℕ) where
   pub more-due : more ≡ frameOf xs → refusing 5 s out ≡ served (frameOf xs)
   more-due e = ap served e
 
-  module _ {n : ℕ} {out' : List ℕ} {after : State} where
-    pub closing-frame : closes ≡ frameOf xs → Sent (close s 20) n out out' after
-        → answering n (length xs) after out' ≡ served (frameOf xs)
-    closing-frame e h = answered-by s (length xs) h ∙ ap served e
+  -- readings that are refused, once it is not MORE
+  module _ (bad : readingsGood (s .readings) ≡ false) where
+    refused-readings : (o : Outcome State) → refusing 7 s out ≡ afterwards s out (choose (readingsGood (s .readings)) o (refused 7))
+    refused-readings o = ap (λ (b : Bool). afterwards s out (choose b o (refused 7))) (sym bad)
 
-    pub whole-frame : {m v r : List ℕ} {t : ℕ} → whole m v r ≡ frameOf xs → t ≡ 9 + length m + length v → Sent (replyTo v m) n out out' after
-        → answering n t after out' ≡ served (frameOf xs)
-    whole-frame {m} {v} {t = t} e g h =
-        answered-by s t h ∙ ap (λ (t : ℕ). afterwards s out (taking t (replyTo v m))) g ∙ ap served e
+    pub closing-bad : closes ≡ frameOf xs → refusing 7 s out ≡ served (frameOf xs)
+    closing-bad e = refused-readings (taking (length xs) (close s 20)) ∙ ap served e
 
-    -- a frame as the code cuts it
-    pub whole-cut : (m v : ℕ) → whole (take m (drop 9 xs)) (take v (drop (9 + m) xs)) (drop (9 + m + v) xs) ≡ frameOf xs → 9 + m + v ≤ length xs
-        → Sent (replyTo (take (9 + m + v - (9 + m)) (drop (9 + m) xs)) (take (9 + m - 9) (drop 9 xs))) n out out' after
-        → answering n (9 + m + v) after out' ≡ served (frameOf xs)
-    whole-cut m v e l h =
-        let f : 9 + m + v - (9 + m) ≡ v = omega arith in
-        let g : 9 + m - 9 ≡ m = omega arith in
-        let k : 9 + m + v ≡ 9 + length (take m (drop 9 xs)) + length (take v (drop (9 + m) xs)) = simp (length-take, length-drop) (omega arith) in
-        whole-frame e k (subst (λ (b : ℕ). Sent (replyTo (take v (drop (9 + m) xs)) (take b (drop 9 xs))) n out out' after) g
-        (subst (λ (b : ℕ). Sent (replyTo (take b (drop (9 + m) xs)) (take (9 + m - 9) (drop 9 xs))) n out out' after) f h))
+    pub whole-bad : {m v r : List ℕ} → whole m v r ≡ frameOf xs → refusing 7 s out ≡ served (frameOf xs)
+    whole-bad {m} {v} e = refused-readings (taking (9 + length m + length v) (replyTo v m)) ∙ ap served e
+
+  -- good ones, and the reply
+  module _ (good : readingsGood (s .readings) ≡ true) where
+    passed : (o : Outcome State) → afterwards s out o ≡ afterwards s out (choose (readingsGood (s .readings)) o (refused 7))
+    passed o = ap (λ (b : Bool). afterwards s out (choose b o (refused 7))) (sym good)
+
+    module _ {n : ℕ} {out' : List ℕ} {after : State} where
+      pub closing-frame : closes ≡ frameOf xs → Sent (close s 20) n out out' after
+          → answering n (length xs) after out' ≡ served (frameOf xs)
+      closing-frame e h = answered-by s (length xs) h ∙ passed (taking (length xs) (close s 20)) ∙ ap served e
+
+      pub whole-frame : {m v r : List ℕ} {t : ℕ} → whole m v r ≡ frameOf xs → t ≡ 9 + length m + length v → Sent (replyTo v m) n out out' after
+          → answering n t after out' ≡ served (frameOf xs)
+      whole-frame {m} {v} {t = t} e g h =
+          answered-by s t h ∙ ap (λ (t : ℕ). afterwards s out (taking t (replyTo v m))) g
+          ∙ passed (taking (9 + length m + length v) (replyTo v m)) ∙ ap served e
+
+      -- a frame as the code cuts it
+      pub whole-cut : (m v : ℕ) → whole (take m (drop 9 xs)) (take v (drop (9 + m) xs)) (drop (9 + m + v) xs) ≡ frameOf xs → 9 + m + v ≤ length xs
+          → Sent (replyTo (take (9 + m + v - (9 + m)) (drop (9 + m) xs)) (take (9 + m - 9) (drop 9 xs))) n out out' after
+          → answering n (9 + m + v) after out' ≡ served (frameOf xs)
+      whole-cut m v e l h =
+          let f : 9 + m + v - (9 + m) ≡ v = omega arith in
+          let g : 9 + m - 9 ≡ m = omega arith in
+          let k : 9 + m + v ≡ 9 + length (take m (drop 9 xs)) + length (take v (drop (9 + m) xs)) = simp (length-take, length-drop) (omega arith) in
+          whole-frame e k (subst (λ (b : ℕ). Sent (replyTo (take v (drop (9 + m) xs)) (take b (drop 9 xs))) n out out' after) g
+          (subst (λ (b : ℕ). Sent (replyTo (take b (drop (9 + m) xs)) (take (9 + m - 9) (drop 9 xs))) n out out' after) f h))

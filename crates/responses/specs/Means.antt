@@ -24,14 +24,15 @@ refusing n s out = record { refusal = n; written = 0; taken = 0; state = s; out 
 abbrev pub answering : ℕ → ℕ → State → List ℕ → Called
 answering written taken after out = record { refusal = 0; written = written; taken = taken; state = after; out = out }
 
--- the code's answer, with the connection of the call and the store, the device record and the reply buffer after it
-abbrev pub called : state.Connection → Response → List ℕ → List ℕ → List ℕ → Called
-called c response.OutShort store device out = refusing 1 (lent store device c) out
-called c response.StoreBad store device out = refusing 2 (lent store device c) out
-called c response.DeviceBad store device out = refusing 3 (lent store device c) out
-called c response.Closed store device out = refusing 4 (lent store device c) out
-called c response.More store device out = refusing 5 (lent store device c) out
-called c (response.Answered written taken d) store device out = answering written taken (lent store device (connectionOf d)) out
+-- the code's answer, with the connection and the readings of the call, and the store, the device record and the reply buffer after it
+abbrev pub called : state.Connection → List ℕ → Response → List ℕ → List ℕ → List ℕ → Called
+called c readings response.OutShort store device out = refusing 1 (lent store device readings c) out
+called c readings response.StoreBad store device out = refusing 2 (lent store device readings c) out
+called c readings response.DeviceBad store device out = refusing 3 (lent store device readings c) out
+called c readings response.Closed store device out = refusing 4 (lent store device readings c) out
+called c readings response.More store device out = refusing 5 (lent store device readings c) out
+called c readings response.ReadingsBad store device out = refusing 7 (lent store device readings c) out
+called c readings (response.Answered written taken d) store device out = answering written taken (lent store device readings (connectionOf d)) out
 
 -- what an outcome leaves of a state and a reply buffer: "reply in the first bytes of the buffer, the rest of it unchanged, and the number of input bytes taken"
 abbrev pub afterwards : State → List ℕ → Outcome State → Called

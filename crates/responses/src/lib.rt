@@ -8,6 +8,7 @@ pub enum Response {
     DeviceBad,
     Closed,
     More,
+    ReadingsBad,
     Answered {
         written: usize,
         taken: usize,

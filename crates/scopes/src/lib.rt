@@ -10,7 +10,7 @@ use lookups::parts::open_at;
 use lookups::parts::part_of;
 use lookups::repeated::next_num;
 use permission_mask::is_permission;
-use permission_mask::with_permission;
+use permission_mask::with_bit;
 use requests::numbers::flag_of;
 use requests::numbers::number_or;
 use tree::Kind;
@@ -45,7 +45,7 @@ pub fn permissions_of(s: &[u8], p: Part) -> Permissions
         if !is_permission(v) {
             return no_permissions();
         }
-        mask = with_permission(mask, v as u8);
+        mask = with_bit(mask, v as u8);
         left = x.rest;
         n += 1;
     }

@@ -7,11 +7,12 @@
 //   send SLOT INPUT LABEL                  the answering call
 //   local KEY LABEL                        the local read
 //   room LENGTH LABEL                      from now on so many bytes of the reply buffer are lent
+//   measured READINGS LABEL                from now on these readings are lent; before the first, 134 zero bytes
 //   block PLACE BYTE LABEL                 a byte of the lent store is overwritten
 //   device PLACE BYTE LABEL                a byte of the device record is overwritten
 //   end                                    the digests of store and device record
 //
-// KEY and INPUT are hex, or - for no bytes; the other words are decimal.
+// KEY and INPUT are hex, or - for no bytes; READINGS are 134 bytes in hex; the other words are decimal.
 use access::Record;
 use connections::Connection;
 use device::Formatted;
@@ -25,7 +26,7 @@ use wire::field::Found;
 use wire::field::next_of;
 use wire::field::read_field;
 ghost use mathlib.Core.Path.{_≡_};
-ghost use Prim.Native.Nat.{_<_, _≤_};
+ghost use Prim.Native.Nat.{_<_, _≤_, _+_};
 ghost use lib.ListN.{length};
 
 // What the host keeps: how much it lends of the store and of the reply buffer, and the number of the last row.
@@ -34,6 +35,12 @@ struct Host {
     room: usize,
     row: u64,
 }
+
+type Store = [u8; 65536];
+
+type Readings = [u8; 134];
+
+type Slots = [u64; 24];
 
 // ---- words of a line
 
@@ -62,6 +69,14 @@ fn place_of(s: &[u8], b: u8, from: usize) -> usize
 fn word(s: &[u8]) -> &[u8] {
     let end = place_of(s, b' ', 0);
     &s[0..end]
+}
+
+// The first letter of s.
+fn first(s: &[u8]) -> u8 {
+    if s.len() == 0 {
+        return 0;
+    }
+    s[0]
 }
 
 // What follows the first word.
@@ -95,11 +110,12 @@ fn nibble(c: u8) -> u8
     }
 }
 
-// A decimal word; the digits of one above 10^17 are left out.
+// The first word of s, in decimal; the digits of one above 10^17 are left out.
 fn number(s: &[u8]) -> u64 {
+    let end = place_of(s, b' ', 0);
     let mut v: u64 = 0;
     let mut i = 0;
-    while i < s.len() {
+    while i < end {
         if 100000000000000000 < v {
             return v;
         }
@@ -109,69 +125,65 @@ fn number(s: &[u8]) -> u64 {
     v
 }
 
-// The bytes of a word in hex, and how many there are.
-fn unhex(s: &[u8], out: &mut [u8; 4096]) -> usize
-    requires { ⌜ 4096 ≡ length (now out) ⌝ }
-    ensures { λ r. ⌜ (r ≤ 4096) × (4096 ≡ length (now (out .exit))) ⌝ }
+// The byte of two digits in hex.
+fn byte_at(s: &[u8], at: usize) -> u8
+    requires { ⌜ at + 1 < length (now s) ⌝ }
 {
-    let mut i = 0;
-    while i < 4096 {
-        if s.len() < 2 * i + 2 {
-            return i;
-        }
-        out[i] = nibble(s[2 * i]) * 16 + nibble(s[2 * i + 1]);
-        i += 1;
-    }
-    4096
+    nibble(s[at]) * 16 + nibble(s[at + 1])
 }
 
-// ---- the connections, five words each
+// The bytes of a word in hex, and how many there are.
+fn unhex(s: &[u8], out: &mut [u8]) -> usize {
+    let mut i = 0;
+    while i < out.len() {
+        if s.len() / 2 <= i {
+            return i;
+        }
+        out[i] = byte_at(s, 2 * i);
+        i += 1;
+    }
+    i
+}
+
+// ---- the connections, three words each: number, flags, last sequence
 
 // Where the words of a slot begin.
 fn place(slot: u64) -> usize
-    ensures { λ r. ⌜ r ≤ 35 ⌝ }
+    ensures { λ r. ⌜ r ≤ 21 ⌝ }
 {
-    (slot % 8 * 5) as usize
+    (slot % 8 * 3) as usize
 }
 
-fn get(slots: &[u64], at: usize) -> u64 {
-    if at < slots.len() {
-        return slots[at];
-    }
-    0
-}
-
-fn set(slots: &mut [u64], at: usize, v: u64) {
-    if at < slots.len() {
-        slots[at] = v;
-    }
-}
-
-fn connection_at(slots: &[u64], slot: u64) -> Connection {
+fn connection_at(slots: &Slots, slot: u64) -> Connection {
     let at = place(slot);
+    let flags = slots[at + 1];
     Connection {
-        number: get(slots, at),
-        protected: get(slots, at + 1) == 1,
-        closed: get(slots, at + 2) == 1,
-        seen: get(slots, at + 3) == 1,
-        last: get(slots, at + 4),
+        number: slots[at],
+        protected: flags % 2 == 1,
+        closed: flags / 2 % 2 == 1,
+        seen: flags / 4 % 2 == 1,
+        last: slots[at + 2],
     }
 }
 
-fn bit(b: bool) -> u64 {
+fn bit(b: bool) -> u64
+    ensures { λ r. ⌜ r ≤ 1 ⌝ }
+{
     if b {
         return 1;
     }
     0
 }
 
-fn keep(slots: &mut [u64], slot: u64, c: Connection) {
+fn flags_of(c: Connection) -> u64 {
+    bit(c.protected) + 2 * bit(c.closed) + 4 * bit(c.seen)
+}
+
+fn keep(slots: &mut Slots, slot: u64, c: Connection) {
     let at = place(slot);
-    set(slots, at, c.number);
-    set(slots, at + 1, bit(c.protected));
-    set(slots, at + 2, bit(c.closed));
-    set(slots, at + 3, bit(c.seen));
-    set(slots, at + 4, c.last);
+    slots[at] = c.number;
+    slots[at + 1] = flags_of(c);
+    slots[at + 2] = c.last;
 }
 
 // ---- columns
@@ -180,9 +192,14 @@ fn write(b: &[u8]) {
     io::write_all(STDOUT_FILENO, b);
 }
 
+// At most 64 blanks.
 fn blanks(n: usize) {
     let all = [b' '; 64];
     write(part(&all, 0, n));
+}
+
+fn newline() {
+    write(b"\n");
 }
 
 // How many blanks stand before a number in seven places.
@@ -245,26 +262,32 @@ fn sha1(b: &[u8]) {
     }
 }
 
-fn title(said: &[u8], host: Host) -> Host {
-    write(b"\n");
+fn title(said: &[u8]) {
+    newline();
     write(said);
     write(
         b"\n    No.  Time   Who       Asked                                          Answer                        Taken Written Entries  Reply, or its SHA-1\n",
     );
-    host
 }
 
 // The number of a row and what was asked.
 fn row(asked: &[u8], host: Host) -> Host {
     let next = number_after(host.row);
     column(next);
-    write(b"  ");
+    blanks(2);
     label(asked);
     Host {
         store: host.store,
         room: host.room,
         row: next,
     }
+}
+
+// A row of what the host does beside the calls.
+fn done(asked: &[u8], host: Host) -> Host {
+    let next = row(asked, host);
+    write(b"done\n");
+    next
 }
 
 fn number_after(row: u64) -> u64 {
@@ -274,33 +297,47 @@ fn number_after(row: u64) -> u64 {
     0
 }
 
-// What the box answered where there is a refusal.
-fn refusal(number: u64) {
-    match number {
-        1 => write(b"refusal 1 OUT_SHORT         "),
-        2 => write(b"refusal 2 STORE_BAD         "),
-        3 => write(b"refusal 3 DEVICE_BAD        "),
-        4 => write(b"refusal 4 CLOSED            "),
-        5 => write(b"refusal 5 MORE              "),
-        6 => write(b"refusal 6 KEY_BAD           "),
-        _ => write(b"?                           "),
+// What the box answered, in 28 bytes: 0 is none that is known, 1 to 7 are the refusals, 8 and above the statuses.
+fn answer_text(place: u64) {
+    let texts = b"?                           \
+          refusal 1 OUT_SHORT         \
+          refusal 2 STORE_BAD         \
+          refusal 3 DEVICE_BAD        \
+          refusal 4 CLOSED            \
+          refusal 5 MORE              \
+          refusal 6 KEY_BAD           \
+          refusal 7 READINGS_BAD      \
+          SUCCESS (1)                 \
+          HMAC_FAILURE (2)            \
+          NOT_AUTHORIZED (3)          \
+          VERSION_FAILURE (4)         \
+          HEADER_REQUIRED (6)         \
+          NOT_FOUND (7)               \
+          VERSION_MISMATCH (8)        \
+          NO_SPACE (14)               \
+          NO_SUCH_HMAC_ALGORITHM (15) \
+          INVALID_REQUEST (16)        \
+          CONNECTION_TERMINATED (20)  ";
+    if place < 19 {
+        write(part(texts, 28 * place as usize, 28));
     }
 }
 
-fn status(code: u8) {
+// Where the text of a status stands.
+fn place_of_status(code: u8) -> u64 {
     match code {
-        1 => write(b"SUCCESS (1)                 "),
-        2 => write(b"HMAC_FAILURE (2)            "),
-        3 => write(b"NOT_AUTHORIZED (3)          "),
-        4 => write(b"VERSION_FAILURE (4)         "),
-        6 => write(b"HEADER_REQUIRED (6)         "),
-        7 => write(b"NOT_FOUND (7)               "),
-        8 => write(b"VERSION_MISMATCH (8)        "),
-        14 => write(b"NO_SPACE (14)               "),
-        15 => write(b"NO_SUCH_HMAC_ALGORITHM (15) "),
-        16 => write(b"INVALID_REQUEST (16)        "),
-        20 => write(b"CONNECTION_TERMINATED (20)  "),
-        _ => write(b"?                           "),
+        1 => 8,
+        2 => 9,
+        3 => 10,
+        4 => 11,
+        6 => 12,
+        7 => 13,
+        8 => 14,
+        14 => 15,
+        15 => 16,
+        16 => 17,
+        20 => 18,
+        _ => 0,
     }
 }
 
@@ -339,29 +376,95 @@ fn inside(s: &[u8], n: u64) -> &[u8] {
     &s[0..0]
 }
 
-// Each of the keys of a range.
-fn keys(range: &[u8]) {
+// The fields of a message that holds no message.
+fn fields(s: &[u8]) {
     let mut at = 0;
-    while at < range.len() {
-        let f = read_field(range, at);
+    while at < s.len() {
+        let f = read_field(s, at);
         let next = next_of(f);
         if next <= at {
             return;
         }
-        key_in(range, f);
+        field(s, f);
         at = next;
     }
 }
 
-fn key_in(range: &[u8], f: Found) {
+// A number in decimal, bytes as text, a float as its bits.
+fn field(s: &[u8], f: Found) {
+    blanks(1);
+    match f {
+        Found::Varint {
+            number: _,
+            value,
+            next: _,
+        } => {
+            io::print_decimal(STDOUT_FILENO, value);
+        }
+        Found::Len {
+            number: _,
+            start,
+            len,
+            next: _,
+        } => text(part(s, start, len)),
+        Found::I32 {
+            number: _,
+            start,
+            next: _,
+        } => bits(part(s, start, 4)),
+        _ => write(b"?"),
+    }
+}
+
+// The bits of a float, the highest first.
+fn bits(b: &[u8]) {
+    let mut i = b.len();
+    while 0 < i {
+        i -= 1;
+        io::print_hex(STDOUT_FILENO, wide(b[i]), 2);
+    }
+}
+
+// A line under a row, with the fields of a message.
+fn line(name: &[u8], s: &[u8]) {
+    blanks(26);
+    write(name);
+    fields(s);
+    newline();
+}
+
+// A line for each part of a log.
+fn log(s: &[u8]) {
+    let mut at = 0;
+    while at < s.len() {
+        let f = read_field(s, at);
+        let next = next_of(f);
+        if next <= at {
+            return;
+        }
+        log_part(s, f);
+        at = next;
+    }
+}
+
+fn log_part(log: &[u8], f: Found) {
     if let Found::Len {
-        number: _,
+        number,
         start,
         len,
         next: _,
     } = f {
-        write(b" ");
-        text(part(range, start, len));
+        log_line(number, part(log, start, len));
+    }
+}
+
+fn log_line(number: u64, s: &[u8]) {
+    match number {
+        2 => line(b"utilization", s),
+        3 => line(b"temperature", s),
+        4 => line(b"capacity", s),
+        8 => line(b"limits", s),
+        _ => line(b"?", s),
     }
 }
 
@@ -370,40 +473,51 @@ fn under(name: &[u8], b: &[u8]) {
     if b.len() == 0 {
         return;
     }
-    write(b"                          ");
+    blanks(26);
     write(name);
-    write(b" ");
-    if 64 < b.len() {
-        text(part(b, 0, 64));
-        write(b" .. ");
-        io::print_decimal(STDOUT_FILENO, b.len() as u64);
-        write(b" bytes");
-    } else {
-        text(b);
-    }
-    write(b"\n");
+    blanks(1);
+    shown(b);
+    newline();
 }
 
-// The key and version of a keyValue, the keys of a range and the value part, where a reply has them.
-fn contents(reply: &[u8]) {
-    let n = message_length(reply);
-    let body = inside(inside(part(reply, 9, n), 7), 2);
+fn shown(b: &[u8]) {
+    if b.len() <= 64 {
+        text(b);
+        return;
+    }
+    text(part(b, 0, 64));
+    write(b" .. ");
+    io::print_decimal(STDOUT_FILENO, b.len() as u64);
+    write(b" bytes");
+}
+
+// The key and version of a keyValue, the keys of a range and the parts of a log, where a body has them.
+fn contents(body: &[u8]) {
     let pair = inside(body, 1);
-    let range = inside(body, 2);
     under(b"key", inside(pair, 3));
     under(b"version", inside(pair, 4));
+    let range = inside(body, 2);
     if 0 < range.len() {
-        write(b"                          keys");
-        keys(range);
-        write(b"\n");
+        line(b"keys", range);
     }
+    log(inside(body, 6));
+}
+
+// What a reply has in its body, and its value part.
+fn reply_lines(reply: &[u8]) {
+    let n = message_length(reply);
+    contents(inside(inside(part(reply, 9, n), 7), 2));
     let end = 9 + n;
     if end < reply.len() {
-        under(b"value", part(reply, end, reply.len() - end));
+        under(b"value", &reply[end..]);
     }
 }
 
 fn shortly(reply: &[u8]) {
+    if reply.len() == 0 {
+        return;
+    }
+    blanks(2);
     if reply.len() <= 24 {
         hex(reply);
     } else {
@@ -414,15 +528,12 @@ fn shortly(reply: &[u8]) {
 // The columns of counts, and the reply or its digest.
 fn counts(taken: usize, reply: &[u8], entries: usize) {
     column(taken as u64);
-    write(b" ");
+    blanks(1);
     column(reply.len() as u64);
-    write(b" ");
+    blanks(1);
     column(entries as u64);
-    if 0 < reply.len() {
-        write(b"  ");
-        shortly(reply);
-    }
-    write(b"\n");
+    shortly(reply);
+    newline();
 }
 
 // ---- the calls
@@ -451,6 +562,7 @@ fn outcome_of(a: Response, c: Connection) -> Told {
         Response::DeviceBad => refused(3, c),
         Response::Closed => refused(4, c),
         Response::More => refused(5, c),
+        Response::ReadingsBad => refused(7, c),
         Response::Answered {
             written,
             taken,
@@ -468,6 +580,7 @@ fn outcome_of(a: Response, c: Connection) -> Told {
 fn ask(
     store: &mut [u8],
     device: &mut Record,
+    readings: &[u8],
     c: Connection,
     input: &[u8],
     out: &mut [u8],
@@ -478,7 +591,14 @@ fn ask(
     if n <= store.len() {
         if room <= out.len() {
             return outcome_of(
-                device::answer(&mut store[0..n], device, c, input, &mut out[0..room]),
+                device::answer(
+                    &mut store[0..n],
+                    device,
+                    readings,
+                    c,
+                    input,
+                    &mut out[0..room],
+                ),
                 c,
             );
         }
@@ -488,39 +608,58 @@ fn ask(
 
 fn send(
     said: &[u8],
-    store: &mut [u8],
+    store: &mut Store,
     device: &mut Record,
-    slots: &mut [u64],
-    out: &mut [u8],
+    readings: &Readings,
+    slots: &mut Slots,
     host: Host,
 ) -> Host {
-    let mut input = [0u8; 4096];
     let after = rest(said);
-    let n = unhex(word(after), &mut input);
-    let slot = number(word(said));
+    let slot = number(said);
+    let next = row(rest(after), host);
+    let c = connection_at(slots, slot);
+    keep(
+        slots,
+        slot,
+        exchange(word(after), store, device, readings, c, host),
+    );
+    next
+}
+
+// Sends bytes in hex, shows what was answered, and gives the connection after it.
+fn exchange(
+    sent: &[u8],
+    store: &mut Store,
+    device: &mut Record,
+    readings: &Readings,
+    c: Connection,
+    host: Host,
+) -> Connection {
+    let mut input = [0u8; 4096];
+    let mut out = [0u8; 4096];
+    let n = unhex(sent, &mut input);
     let r = ask(
         store,
         device,
-        connection_at(slots, slot),
-        &input[0..n],
-        out,
+        readings,
+        c,
+        part(&input, 0, n),
+        &mut out,
         host,
     );
-    keep(slots, slot, r.connection);
-    let next = row(rest(after), host);
-    answered(r, part(out, 0, r.written), entries(store, host));
-    next
+    answered(r, part(&out, 0, r.written), entries(store, host));
+    r.connection
 }
 
 fn answered(r: Told, reply: &[u8], entries: usize) {
     if 0 < r.refusal {
-        refusal(r.refusal);
+        answer_text(r.refusal);
         counts(0, part(reply, 0, 0), entries);
         return;
     }
-    status(code_of(reply));
+    answer_text(place_of_status(code_of(reply)));
     counts(r.taken, reply, entries);
-    contents(reply);
+    reply_lines(reply);
 }
 
 // How many entries the lent store has.
@@ -528,18 +667,23 @@ fn entries(store: &[u8], host: Host) -> usize {
     store::count(part(store, 0, host.store))
 }
 
-fn format(said: &[u8], store: &mut [u8], device: &mut Record, host: Host) -> Host {
-    let mut key = [0u8; 4096];
-    let n = number(word(said)) as usize;
-    let k = unhex(word(rest(said)), &mut key);
-    let next = row(rest(rest(said)), host);
-    if n <= store.len() {
-        made(device::format(&mut store[0..n], device, &key[0..k]));
-    }
+fn format(said: &[u8], store: &mut Store, device: &mut Record, host: Host) -> Host {
+    let after = rest(said);
+    let n = number(said) as usize;
+    let next = row(rest(after), host);
+    make(store, n, device, word(after));
     Host {
         store: n,
         room: next.room,
         row: next.row,
+    }
+}
+
+fn make(store: &mut [u8], n: usize, device: &mut Record, key: &[u8]) {
+    let mut bytes = [0u8; 4096];
+    let k = unhex(key, &mut bytes);
+    if n <= store.len() {
+        made(device::format(&mut store[0..n], device, part(&bytes, 0, k)));
     }
 }
 
@@ -551,11 +695,11 @@ fn made(r: Formatted) {
     }
 }
 
-fn connect(said: &[u8], slots: &mut [u64], host: Host) -> Host {
+fn connect(said: &[u8], slots: &mut Slots, host: Host) -> Host {
     let after = rest(said);
     let last = rest(after);
-    let slot = number(word(said));
-    let c = device::connect(number(word(after)), number(word(last)) == 1);
+    let slot = number(said);
+    let c = device::connect(number(after), number(last) == 1);
     keep(slots, slot, c);
     let next = row(rest(last), host);
     write(b"connected\n");
@@ -567,8 +711,9 @@ fn local_read(said: &[u8], store: &[u8], host: Host) -> Host {
     let n = unhex(word(said), &mut key);
     let lent = part(store, 0, host.store);
     let next = row(rest(said), host);
-    shown_as(device::local_find(lent, &key[0..n]));
-    under(b"value", device::local_read(lent, &key[0..n]));
+    let asked = part(&key, 0, n);
+    shown_as(device::local_find(lent, asked));
+    under(b"value", device::local_read(lent, asked));
     next
 }
 
@@ -583,13 +728,17 @@ fn shown_as(r: Local) {
 // ---- what the host does beside the calls
 
 fn room(said: &[u8], host: Host) -> Host {
-    let next = row(rest(said), host);
-    write(b"done\n");
+    let next = done(rest(said), host);
     Host {
         store: next.store,
-        room: number(word(said)) as usize,
+        room: number(said) as usize,
         row: next.row,
     }
+}
+
+fn measured(said: &[u8], readings: &mut Readings, host: Host) -> Host {
+    unhex(word(said), readings);
+    done(rest(said), host)
 }
 
 fn overwrite_at(lent: &mut [u8], place: usize, b: u8) {
@@ -600,48 +749,70 @@ fn overwrite_at(lent: &mut [u8], place: usize, b: u8) {
 
 fn overwrite(said: &[u8], lent: &mut [u8], host: Host) -> Host {
     let after = rest(said);
-    let place = number(word(said)) as usize;
-    overwrite_at(lent, place, (number(word(after)) % 256) as u8);
-    let next = row(rest(after), host);
-    write(b"done\n");
-    next
+    let place = number(said) as usize;
+    overwrite_at(lent, place, (number(after) % 256) as u8);
+    done(rest(after), host)
 }
 
-fn end(store: &[u8], device: &Record, host: Host) -> Host {
+fn end(store: &[u8], device: &Record, host: Host) {
     write(b"\nSHA-1 of the store          ");
     sha1(part(store, 0, host.store));
     write(b"\nSHA-1 of the device record  ");
     sha1(device);
-    write(b"\n");
-    host
+    newline();
+}
+
+// An event that is no call.
+fn beside(
+    line: &[u8],
+    store: &mut Store,
+    device: &mut Record,
+    readings: &mut Readings,
+    host: Host,
+) -> Host {
+    let said = rest(line);
+    match first(line) {
+        b'r' => room(said, host),
+        b'm' => measured(said, readings, host),
+        b'b' => overwrite(said, store, host),
+        b'd' => overwrite(said, device, host),
+        b'#' => {
+            title(said);
+            host
+        }
+        b'e' => {
+            end(store, device, host);
+            host
+        }
+        _ => host,
+    }
 }
 
 fn event(
     line: &[u8],
-    store: &mut [u8],
+    store: &mut Store,
     device: &mut Record,
-    slots: &mut [u64],
-    out: &mut [u8],
+    readings: &mut Readings,
+    slots: &mut Slots,
     host: Host,
 ) -> Host {
-    if line.len() == 0 {
-        return host;
-    }
     let said = rest(line);
-    match line[0] {
-        b'#' => title(said, host),
+    match first(line) {
         b'f' => format(said, store, device, host),
         b'c' => connect(said, slots, host),
-        b's' => send(said, store, device, slots, out, host),
+        b's' => send(said, store, device, readings, slots, host),
         b'l' => local_read(said, store, host),
-        b'r' => room(said, host),
-        b'b' => overwrite(said, store, host),
-        b'd' => overwrite(said, device, host),
-        _ => end(store, device, host),
+        _ => beside(line, store, device, readings, host),
     }
 }
 
-fn day(s: &[u8], store: &mut [u8], device: &mut Record, slots: &mut [u64], out: &mut [u8]) {
+fn day(
+    s: &[u8],
+    store: &mut Store,
+    device: &mut Record,
+    readings: &mut Readings,
+    slots: &mut Slots,
+) {
     let mut host = Host {
         store: 0,
         room: 4096,
@@ -650,23 +821,23 @@ fn day(s: &[u8], store: &mut [u8], device: &mut Record, slots: &mut [u64], out: 
     let mut at = 0;
     while at < s.len() {
         let end = place_of(s, b'\n', at);
-        host = event(&s[at..end], store, device, slots, out, host);
+        host = event(&s[at..end], store, device, readings, slots, host);
         at = end + 1;
     }
-}
-
-fn events() -> [u8; 131072]
-    ensures { λ r. ⌜ 131072 ≡ length r ⌝ }
-{
-    [0; 131072]
 }
 
 fn main() {
     let mut store = io::large_buffer();
     let mut device = [0u8; 2960];
-    let mut slots = [0u64; 40];
-    let mut out = io::buffer();
-    let mut s = events();
+    let mut readings = [0u8; 134];
+    let mut slots = [0u64; 24];
+    let mut s = [0u8; 131072];
     let n = io::read_full(STDIN_FILENO, &mut s);
-    day(&s[..n], &mut store, &mut device, &mut slots, &mut out);
+    day(
+        part(&s, 0, n),
+        &mut store,
+        &mut device,
+        &mut readings,
+        &mut slots,
+    );
 }

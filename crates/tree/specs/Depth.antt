@@ -9,12 +9,12 @@ use lib.Dec.{eqb}
 use Rattle.wire.specs.Reader.{choose}
 use Rattle.wire.specs.Wire.{Value, vint, v64, vlen, v32, Field, field, fieldsOf}
 use Rattle.tree.specs.Rules.{namesOf, Table, end, row, look, tableOf, strictOf, ruleOf}
-use Rattle.tree.specs.Tree.{mapO, thenO, guard, isSome, among, Content, cInt, cRaw, cMsg, Item, item, isInt32, ofInt, ofBytes, decode, find, add, byRule, step, items, itemsO, level}
+use Rattle.tree.specs.Tree.{mapO, thenO, guard, isSome, among, Content, cInt, cRaw, cFix, cMsg, Item, item, isInt32, ofInt, ofBytes, ofFixed, decode, find, add, byRule, step, items, itemsO, level}
 use Rattle.tree.specs.Tree.{Tree, sub, openOne, openAll, listedIn, listed}
 use Rattle.tree.specs.declared.Kind.{Kind}
-use Rattle.tree.specs.declared.Kind.the-variants.{Message, HmacAuth, Command, Header, Body, KeyValue, Range, Setup, Security, Acl, Scope, ReplyCommand, ReplyBody, ReplyRange, Status}
+use Rattle.tree.specs.declared.Kind.the-variants.{Message, HmacAuth, Command, Header, Body, KeyValue, Range, Setup, GetLog, Security, Acl, Scope, ReplyCommand, ReplyBody, ReplyRange, ReplyGetLog, Utilization, Temperature, Capacity, Limits, Status}
 use Rattle.tree.specs.declared.Form.{Form}
-use Rattle.tree.specs.declared.Form.the-variants.{Int64, Int32, Named, Flag, Bytes, Opaque, Nested}
+use Rattle.tree.specs.declared.Form.the-variants.{Int64, Int32, Named, Flag, Bytes, Opaque, Float, Nested}
 use Rattle.tree.specs.declared.Rule.{Rule}
 use Rattle.tree.specs.declared.Rule.the-variants.{Unlisted, Refused, Single, Repeated}
 
@@ -27,6 +27,7 @@ formFits p (Named e) = true
 formFits p Flag = true
 formFits p Bytes = true
 formFits p Opaque = true
+formFits p Float = true
 formFits p (Nested k) = p k
 
 abbrev ruleFits : (Kind → Bool) → Rule → Bool
@@ -54,12 +55,18 @@ all-fit Body = refl
 all-fit KeyValue = refl
 all-fit Range = refl
 all-fit Setup = refl
+all-fit GetLog = refl
 all-fit Security = refl
 all-fit Acl = refl
 all-fit Scope = refl
 all-fit ReplyCommand = refl
 all-fit ReplyBody = refl
 all-fit ReplyRange = refl
+all-fit ReplyGetLog = refl
+all-fit Utilization = refl
+all-fit Temperature = refl
+all-fit Capacity = refl
+all-fit Limits = refl
 all-fit Status = refl
 
 both : (s t : Bool) → choose s t false ≡ true → (s ≡ true) × (t ≡ true)
@@ -81,6 +88,7 @@ module _ (p : Kind → Bool) where
   abbrev Fits : Content → Type 0
   Fits (cInt v) = Unit {0}
   Fits (cRaw b) = Unit {0}
+  Fits (cFix b) = Unit {0}
   Fits (cMsg k b) = p k ≡ true
 
   abbrev FitsO : Option Content → Type 0
@@ -106,6 +114,7 @@ module _ (p : Kind → Bool) where
   int-fits Flag v = tt
   int-fits Bytes v = tt
   int-fits Opaque v = tt
+  int-fits Float v = tt
   int-fits (Nested k) v = tt
 
   bytes-fits : (f : Form) (b : List ℕ) → formFits p f ≡ true → FitsO (ofBytes f b)
@@ -115,13 +124,24 @@ module _ (p : Kind → Bool) where
   bytes-fits Flag b h = tt
   bytes-fits Bytes b h = tt
   bytes-fits Opaque b h = tt
+  bytes-fits Float b h = tt
   bytes-fits (Nested k) b h = h
+
+  fixed-fits : (f : Form) (b : List ℕ) → FitsO (ofFixed f b)
+  fixed-fits Int64 b = tt
+  fixed-fits Int32 b = tt
+  fixed-fits (Named e) b = tt
+  fixed-fits Flag b = tt
+  fixed-fits Bytes b = tt
+  fixed-fits Opaque b = tt
+  fixed-fits Float b = tt
+  fixed-fits (Nested k) b = tt
 
   decode-fits : (f : Form) (v : Value) → formFits p f ≡ true → FitsO (decode f v)
   decode-fits f (vint v) h = int-fits f v
   decode-fits f (v64 b) h = tt
   decode-fits f (vlen b) h = bytes-fits f b h
-  decode-fits f (v32 b) h = tt
+  decode-fits f (v32 b) h = fixed-fits f b
 
   all-snoc : (is : List Item) (n : ℕ) (c : Content) → All is → Fits c → All (is ++ (item n c ∷ []))
   all-snoc [] n c h g = (g, tt)
@@ -166,6 +186,7 @@ module _ (p : Kind → Bool) where
     open-one : (n : ℕ) (c : Content) (t : Tree) → Fits c → openOne f n c t ≡ openOne g n c t
     open-one n (cInt v) t l = refl
     open-one n (cRaw b) t l = refl
+    open-one n (cFix b) t l = refl
     open-one n (cMsg k b) t l = ap (mapO (λ s. sub n s t)) (h k b l)
 
     open-all : (is : List Item) → All is → openAll f is ≡ openAll g is

@@ -7,7 +7,7 @@ use mathlib.Core.Bool.{Bool, true, false}
 use lib.Dec.{eqb}
 use borrow.Author.Tests.{eqb-true}
 use Rattle.tree.specs.Rules.{ruleOf}
-use Rattle.tree.specs.Tree.{guard, Tree, done, int, raw, sub, later, intAt, rawAt, join, joinO, subAt}
+use Rattle.tree.specs.Tree.{guard, Tree, done, int, raw, fix, sub, later, intAt, rawAt, join, joinO, subAt}
 use Rattle.tree.specs.PutIn.{Has, Replaces, EqualBut}
 use Rattle.tree.specs.declared.Kind.{Kind}
 use Rattle.tree.specs.declared.Form.the-variants.{Nested}
@@ -25,12 +25,14 @@ module _ (R : Replaces) where
   equal-but-refl k done = EqualBut.dones k
   equal-but-refl k (int n v t) = EqualBut.ints n v (equal-but-refl k t)
   equal-but-refl k (raw n b t) = EqualBut.raws n b (equal-but-refl k t)
+  equal-but-refl k (fix n b t) = EqualBut.fixs n b (equal-but-refl k t)
   equal-but-refl k (sub n u t) = EqualBut.equal n u (equal-but-refl k t)
 
   equal-but-join : {k : Kind} {t t' u u' : Tree} → EqualBut R k t t' → EqualBut R k u u' → EqualBut R k (join t u) (join t' u')
   equal-but-join (EqualBut.dones k) h = h
   equal-but-join (EqualBut.ints n v r) h = EqualBut.ints n v (equal-but-join r h)
   equal-but-join (EqualBut.raws n b r) h = EqualBut.raws n b (equal-but-join r h)
+  equal-but-join (EqualBut.fixs n b r) h = EqualBut.fixs n b (equal-but-join r h)
   equal-but-join (EqualBut.replaced n b b' w r) h = EqualBut.replaced n b b' w (equal-but-join r h)
   equal-but-join (EqualBut.equal n u r) h = EqualBut.equal n u (equal-but-join r h)
   equal-but-join (EqualBut.subs n k' g q r) h = EqualBut.subs n k' g q (equal-but-join r h)
@@ -39,6 +41,7 @@ module _ (R : Replaces) where
   int-equal n (EqualBut.dones k) = refl
   int-equal n (EqualBut.ints m v r) = ap (λ o. later o (guard (eqb n m) v)) (int-equal n r)
   int-equal n (EqualBut.raws m b r) = int-equal n r
+  int-equal n (EqualBut.fixs m b r) = int-equal n r
   int-equal n (EqualBut.replaced m b b' w r) = int-equal n r
   int-equal n (EqualBut.equal m u r) = int-equal n r
   int-equal n (EqualBut.subs m k' g q r) = int-equal n r
@@ -61,6 +64,7 @@ module _ (R : Replaces) where
   raw-equal n (EqualBut.dones k) = RawsBut.equal none
   raw-equal n (EqualBut.ints m v r) = raw-equal n r
   raw-equal n {k} (EqualBut.raws m b r) = raws-later k n (raw-equal n r) (RawsBut.equal (guard (eqb n m) b))
+  raw-equal n (EqualBut.fixs m b r) = raw-equal n r
   raw-equal n {k} (EqualBut.replaced m b b' w r) = raws-later k n (raw-equal n r) (raws-guard k n m b b' w (eqb n m) refl)
   raw-equal n (EqualBut.equal m u r) = raw-equal n r
   raw-equal n (EqualBut.subs m k' g q r) = raw-equal n r
@@ -92,6 +96,7 @@ module _ (R : Replaces) where
   sub-equal n (EqualBut.dones k) = SubsBut.equal none
   sub-equal n (EqualBut.ints m v r) = sub-equal n r
   sub-equal n (EqualBut.raws m b r) = sub-equal n r
+  sub-equal n (EqualBut.fixs m b r) = sub-equal n r
   sub-equal n (EqualBut.replaced m b b' w r) = sub-equal n r
   sub-equal n {k} (EqualBut.equal m u r) = subs-equal k n (eqb n m) u (sub-equal n r)
   sub-equal n {k} (EqualBut.subs m k' g q r) = subs-pick k n m k' g q (eqb n m) refl (sub-equal n r)

@@ -6,9 +6,9 @@ use mathlib.Core.List.{List, _++_}
 use mathlib.Core.Option.{Option, none, some}
 use Rattle.wire.specs.Wire.{Value, vlen, Field, field, Framed}
 use Rattle.tree.specs.Rules.{ruleOf}
-use Rattle.tree.specs.Tree.{Tree, done, int, raw, sub}
+use Rattle.tree.specs.Tree.{Tree, done, int, raw, fix, sub}
 use Rattle.tree.specs.declared.Kind.{Kind}
-use Rattle.tree.specs.declared.Kind.the-variants.{Message, HmacAuth, Command, Header, Body, KeyValue, Range, Setup, Security, Acl, Scope, ReplyCommand, ReplyBody, ReplyRange, Status}
+use Rattle.tree.specs.declared.Kind.the-variants.{Message, HmacAuth, Command, Header, Body, KeyValue, Range, Setup, GetLog, Security, Acl, Scope, ReplyCommand, ReplyBody, ReplyRange, ReplyGetLog, Utilization, Temperature, Capacity, Limits, Status}
 use Rattle.tree.specs.declared.Form.{Form}
 use Rattle.tree.specs.declared.Form.the-variants.{Bytes, Opaque, Nested}
 use Rattle.tree.specs.declared.Rule.{Rule}
@@ -35,12 +35,18 @@ inSecurity Body = 0
 inSecurity KeyValue = 0
 inSecurity Range = 0
 inSecurity Setup = 0
+inSecurity GetLog = 0
 inSecurity Security = 1
 inSecurity Acl = 1
 inSecurity Scope = 1
 inSecurity ReplyCommand = 0
 inSecurity ReplyBody = 0
 inSecurity ReplyRange = 0
+inSecurity ReplyGetLog = 0
+inSecurity Utilization = 0
+inSecurity Temperature = 0
+inSecurity Capacity = 0
+inSecurity Limits = 0
 inSecurity Status = 0
 
 -- R k n b b': in a message of kind k the bytes b of the listed field n may be replaced by b'
@@ -80,6 +86,7 @@ module _ (R : Replaces) where
     dones : (k : Kind) → EqualBut k done done
     ints : {k : Kind} {t t' : Tree} (n v : ℕ) → EqualBut k t t' → EqualBut k (int n v t) (int n v t')
     raws : {k : Kind} {t t' : Tree} (n : ℕ) (b : List ℕ) → EqualBut k t t' → EqualBut k (raw n b t) (raw n b t')
+    fixs : {k : Kind} {t t' : Tree} (n : ℕ) (b : List ℕ) → EqualBut k t t' → EqualBut k (fix n b t) (fix n b t')
     replaced : {k : Kind} {t t' : Tree} (n : ℕ) (b b' : List ℕ) → R k n b b' → EqualBut k t t' → EqualBut k (raw n b t) (raw n b' t')
     equal : {k : Kind} {t t' : Tree} (n : ℕ) (u : Tree) → EqualBut k t t' → EqualBut k (sub n u t) (sub n u t')
     subs : {k : Kind} {t t' u u' : Tree} (n : ℕ) (k' : Kind) → Has (Nested k') (ruleOf k n) → EqualBut k' u u' → EqualBut k t t'

@@ -9,12 +9,12 @@ use lib.Dec.{eqb}
 use Rattle.wire.specs.Reader.{choose}
 use Rattle.wire.specs.Wire.{Value, vlen, Field, field, fieldsOf, Framed}
 use Rattle.tree.specs.Rules.{strictOf, ruleOf}
-use Rattle.tree.specs.Tree.{mapO, thenO, Content, cInt, cRaw, cMsg, Item, item, ofBytes, decode, find, isSome, add, byRule, step, items, itemsO, level}
-use Rattle.tree.specs.Tree.{Tree, int, raw, sub, openOne, openAll, listedIn, listed}
+use Rattle.tree.specs.Tree.{mapO, thenO, Content, cInt, cRaw, cFix, cMsg, Item, item, ofBytes, decode, find, isSome, add, byRule, step, items, itemsO, level}
+use Rattle.tree.specs.Tree.{Tree, int, raw, fix, sub, openOne, openAll, listedIn, listed}
 use Rattle.tree.specs.PutIn.{Has, inSecurity, Replaces, Nothing, PutIn, EqualBut, EqualButO}
 use Rattle.tree.specs.LevelLaws.{items-front, step-unlisted, items-unlisted}
 use Rattle.tree.specs.declared.Kind.{Kind}
-use Rattle.tree.specs.declared.Kind.the-variants.{Message, HmacAuth, Command, Header, Body, KeyValue, Range, Setup, Security, Acl, Scope, ReplyCommand, ReplyBody, ReplyRange, Status}
+use Rattle.tree.specs.declared.Kind.the-variants.{Message, HmacAuth, Command, Header, Body, KeyValue, Range, Setup, GetLog, Security, Acl, Scope, ReplyCommand, ReplyBody, ReplyRange, ReplyGetLog, Utilization, Temperature, Capacity, Limits, Status}
 use Rattle.tree.specs.declared.Form.{Form}
 use Rattle.tree.specs.declared.Form.the-variants.{Bytes, Opaque, Nested}
 use Rattle.tree.specs.declared.Rule.{Rule}
@@ -30,12 +30,18 @@ security-strict Body = refl
 security-strict KeyValue = refl
 security-strict Range = refl
 security-strict Setup = refl
+security-strict GetLog = refl
 security-strict Security = refl
 security-strict Acl = refl
 security-strict Scope = refl
 security-strict ReplyCommand = refl
 security-strict ReplyBody = refl
 security-strict ReplyRange = refl
+security-strict ReplyGetLog = refl
+security-strict Utilization = refl
+security-strict Temperature = refl
+security-strict Capacity = refl
+security-strict Limits = refl
 security-strict Status = refl
 
 none-strict : (t : Bool) (c : ℕ) → choose t 1 0 + c ≡ 0 → (t ≡ false) × (c ≡ 0)
@@ -81,6 +87,7 @@ module _ (R : Replaces) where
       → EqualButO R k (openOne (λ k b. listedIn d k b) n c t) (openOne (λ k b. listedIn d k b) n c' t')
   like-open d k n (equal (cInt v)) h = EqualButO.somes (EqualBut.ints n v h)
   like-open d k n (equal (cRaw b)) h = EqualButO.somes (EqualBut.raws n b h)
+  like-open d k n (equal (cFix b)) h = EqualButO.somes (EqualBut.fixs n b h)
   like-open d k n (equal (cMsg k' b)) h = map-equal k n (listedIn d k' b) h
   like-open d k n (change b b' r) h = EqualButO.somes (EqualBut.replaced n b b' r h)
   like-open d k n (inner k' b b' g e) h = map-subs k n k' g (e d) h
@@ -210,6 +217,7 @@ equal-but-nothing : {k : Kind} {t t' : Tree} → EqualBut Nothing k t t' → t �
 equal-but-nothing (EqualBut.dones k) = refl
 equal-but-nothing (EqualBut.ints n v r) = ap (int n v) (equal-but-nothing r)
 equal-but-nothing (EqualBut.raws n b r) = ap (raw n b) (equal-but-nothing r)
+equal-but-nothing (EqualBut.fixs n b r) = ap (fix n b) (equal-but-nothing r)
 equal-but-nothing (EqualBut.replaced n b b' w r) = absurd w
 equal-but-nothing (EqualBut.equal n u r) = ap (sub n u) (equal-but-nothing r)
 equal-but-nothing (EqualBut.subs n k' g q r) = ap₂ (sub n) (equal-but-nothing q) (equal-but-nothing r)

@@ -9,7 +9,7 @@ use Rattle.wire.specs.Wire.{Value, vint, v64, vlen, v32, Field, field, fieldsOf
 use Rattle.tree.specs.Rules.{namesOf, strictOf, ruleOf}
 use Rattle.tree.specs.declared.Kind.{Kind}
 use Rattle.tree.specs.declared.Form.{Form}
-use Rattle.tree.specs.declared.Form.the-variants.{Int64, Int32, Named, Flag, Bytes, Opaque, Nested}
+use Rattle.tree.specs.declared.Form.the-variants.{Int64, Int32, Named, Flag, Bytes, Opaque, Float, Nested}
 use Rattle.tree.specs.declared.Rule.{Rule}
 use Rattle.tree.specs.declared.Rule.the-variants.{Unlisted, Refused, Single, Repeated}
 
@@ -35,10 +35,11 @@ among n (m ∷ ms) = choose (eqb n m) true (among n ms)
 
 -- one level --------------------------------------------------------------------
 
--- what a listed field holds: a number, bytes, or a message whose fields are not read yet
+-- what a listed field holds: a number, bytes, the four bytes of a float, or a message whose fields are not read yet
 pub data Content : Type 0 where
   cInt : ℕ → Content
   cRaw : List ℕ → Content
+  cFix : List ℕ → Content
   cMsg : Kind → List ℕ → Content
 
 pub data Item : Type 0 where
@@ -56,6 +57,7 @@ ofInt (Named e) v = guard (among v (namesOf e)) (cInt v)
 ofInt Flag v = some (cInt (choose (eqb v 0) 0 1))
 ofInt Bytes v = none
 ofInt Opaque v = none
+ofInt Float v = none
 ofInt (Nested k) v = none
 
 abbrev pub ofBytes : Form → List ℕ → Option Content
@@ -65,14 +67,26 @@ ofBytes (Named e) b = none
 ofBytes Flag b = none
 ofBytes Bytes b = some (cRaw b)
 ofBytes Opaque b = some (cRaw [])
+ofBytes Float b = none
 ofBytes (Nested k) b = some (cMsg k b)
+
+-- document 003's floats are wire type 5
+abbrev pub ofFixed : Form → List ℕ → Option Content
+ofFixed Int64 b = none
+ofFixed Int32 b = none
+ofFixed (Named e) b = none
+ofFixed Flag b = none
+ofFixed Bytes b = none
+ofFixed Opaque b = none
+ofFixed Float b = some (cFix b)
+ofFixed (Nested k) b = none
 
 -- what a value says under a form; "listed fields with another wire type … are refused"
 abbrev pub decode : Form → Value → Option Content
 decode f (vint v) = ofInt f v
 decode f (v64 b) = none
 decode f (vlen b) = ofBytes f b
-decode f (v32 b) = none
+decode f (v32 b) = ofFixed f b
 
 -- the first item of a number
 abbrev pub find : ℕ → List Item → Option Content
@@ -107,16 +121,18 @@ level k m = itemsO k (fieldsOf m) []
 
 -- every level --------------------------------------------------------------------
 
--- the listed fields in order: each a number, bytes, or a message with its own
+-- the listed fields in order: each a number, bytes, a float's four bytes, or a message with its own
 pub data Tree : Type 0 where
   done : Tree
   int : ℕ → ℕ → Tree → Tree
   raw : ℕ → List ℕ → Tree → Tree
+  fix : ℕ → List ℕ → Tree → Tree
   sub : ℕ → Tree → Tree → Tree
 
 abbrev pub openOne : (Kind → List ℕ → Option Tree) → ℕ → Content → Tree → Option Tree
 openOne below n (cInt v) t = some (int n v t)
 openOne below n (cRaw b) t = some (raw n b t)
+openOne below n (cFix b) t = some (fix n b t)
 openOne below n (cMsg k b) t = mapO (λ s. sub n s t) (below k b)
 
 abbrev pub openItem : (Kind → List ℕ → Option Tree) → Item → Option Tree → Option Tree
@@ -146,6 +162,7 @@ abbrev pub intAt : ℕ → Tree → Option ℕ
 intAt n done = none
 intAt n (int m v t) = later (intAt n t) (guard (eqb n m) v)
 intAt n (raw m b t) = intAt n t
+intAt n (fix m b t) = intAt n t
 intAt n (sub m s t) = intAt n t
 
 -- the last bytes
@@ -153,12 +170,22 @@ abbrev pub rawAt : ℕ → Tree → Option (List ℕ)
 rawAt n done = none
 rawAt n (int m v t) = rawAt n t
 rawAt n (raw m b t) = later (rawAt n t) (guard (eqb n m) b)
+rawAt n (fix m b t) = rawAt n t
 rawAt n (sub m s t) = rawAt n t
+
+-- the last float
+abbrev pub fixAt : ℕ → Tree → Option (List ℕ)
+fixAt n done = none
+fixAt n (int m v t) = fixAt n t
+fixAt n (raw m b t) = fixAt n t
+fixAt n (fix m b t) = later (fixAt n t) (guard (eqb n m) b)
+fixAt n (sub m s t) = fixAt n t
 
 abbrev pub join : Tree → Tree → Tree
 join done u = u
 join (int n v t) u = int n v (join t u)
 join (raw n b t) u = raw n b (join t u)
+join (fix n b t) u = fix n b (join t u)
 join (sub n s t) u = sub n s (join t u)
 
 abbrev pub joinO : Bool → Tree → Option Tree → Option Tree
@@ -171,6 +198,7 @@ abbrev pub subAt : ℕ → Tree → Option Tree
 subAt n done = none
 subAt n (int m v t) = subAt n t
 subAt n (raw m b t) = subAt n t
+subAt n (fix m b t) = subAt n t
 subAt n (sub m s t) = joinO (eqb n m) s (subAt n t)
 
 abbrev pub consIf : {A : Type 0} → Bool → A → List A → List A
@@ -182,16 +210,19 @@ abbrev pub intsAt : ℕ → Tree → List ℕ
 intsAt n done = []
 intsAt n (int m v t) = consIf (eqb n m) v (intsAt n t)
 intsAt n (raw m b t) = intsAt n t
+intsAt n (fix m b t) = intsAt n t
 intsAt n (sub m s t) = intsAt n t
 
 abbrev pub rawsAt : ℕ → Tree → List (List ℕ)
 rawsAt n done = []
 rawsAt n (int m v t) = rawsAt n t
 rawsAt n (raw m b t) = consIf (eqb n m) b (rawsAt n t)
+rawsAt n (fix m b t) = rawsAt n t
 rawsAt n (sub m s t) = rawsAt n t
 
 abbrev pub subsAt : ℕ → Tree → List Tree
 subsAt n done = []
 subsAt n (int m v t) = subsAt n t
 subsAt n (raw m b t) = subsAt n t
+subsAt n (fix m b t) = subsAt n t
 subsAt n (sub m s t) = consIf (eqb n m) s (subsAt n t)

@@ -1,4 +1,4 @@
-// The kinds of message, and how each listed field of a kind is read. The last four kinds are for reading replies.
+// The kinds of message, and how each listed field of a kind is read. The kinds from ReplyCommand on are for reading replies.
 pub enum Kind {
     Message,
     HmacAuth,
@@ -8,24 +8,31 @@ pub enum Kind {
     KeyValue,
     Range,
     Setup,
+    GetLog,
     Security,
     Acl,
     Scope,
     ReplyCommand,
     ReplyBody,
     ReplyRange,
+    ReplyGetLog,
+    Utilization,
+    Temperature,
+    Capacity,
+    Limits,
     Status,
 }
 
-// The enums whose values document 01 names.
+// The enums whose values the documents name.
 pub enum Names {
     Priority,
     Algorithm,
     Synchronization,
+    LogType,
     StatusCode,
 }
 
-// How a listed field is read. An enum that is judged later is an Int32; Opaque is bytes not looked into.
+// How a listed field is read. An enum that is judged later is an Int32; Opaque is bytes not looked into; a Float is its four bytes.
 pub enum Form {
     Int64,
     Int32,
@@ -33,6 +40,7 @@ pub enum Form {
     Flag,
     Bytes,
     Opaque,
+    Float,
     Nested(Kind),
 }
 

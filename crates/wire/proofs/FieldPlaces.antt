@@ -85,7 +85,7 @@ pub ends-later : (s : List ℕ) (a b : ℕ) (r : Found) → a ≤ b → endsFoun
 ends-later s a b (Varint n v next) l h = (omega arith, h .1)
 ends-later s a b (I64 n start next) l h = (omega arith, h .1)
 ends-later s a b (Len n start len next) l h = (omega arith, h .1, h .2, omega arith)
-ends-later s a b (I32 n start next) l h = (omega arith, h .1)
+ends-later s a b (I32 n start next) l h = (omega arith, h .1, h .2)
 ends-later s a b NoField l h = tt
 
 pub found-got : (s : List ℕ) (at : ℕ) (f : Found) → at < nextIn f → meansFound s f ≡ got (field (numberIn f) (valueIn s f)) (drop (nextIn f) s)

@@ -20,7 +20,7 @@ abbrev pub endsFound : List ℕ → ℕ → Found → Type 0
 endsFound s at (Varint n v next) = (at < next) × (next ≤ length s)
 endsFound s at (I64 n start next) = (at < next) × (next ≤ length s)
 endsFound s at (Len n start len next) = (at < next) × (next ≤ length s) × (start + len ≡ next) × (at < start)
-endsFound s at (I32 n start next) = (at < next) × (next ≤ length s)
+endsFound s at (I32 n start next) = (at < next) × (next ≤ length s) × (start + 4 ≡ next)
 endsFound s at NoField = Unit {0}
 
 abbrev pub numberIn : Found → ℕ
@@ -35,7 +35,7 @@ valueIn s (Varint n v next) = vint v
 valueIn s (I64 n start next) = v64 (take 8 (drop start s))
 valueIn s (Len n start len next) = vlen (take len (drop start s))
 valueIn s (I32 n start next) = v32 (take 4 (drop start s))
-valueIn s NoField = v32 []
+valueIn s NoField = v64 []
 
 abbrev pub nextIn : Found → ℕ
 nextIn (Varint n v next) = next

@@ -6,8 +6,8 @@ use mathlib.Core.List.{List, [], _∷_, _++_, append-nil, append-assoc}
 use mathlib.Core.Option.{Option, none, some}
 use lib.ListN.{length, drop, getD}
 use lib.Seq.{drop-cons}
-use Rattle.tree.specs.Tree.{Tree, done, int, raw, sub}
-use Rattle.encoding.specs.Encode.{intField, head, lenField, encode, intO, intIf, rawIf, each}
+use Rattle.tree.specs.Tree.{Tree, done, int, raw, fix, sub}
+use Rattle.encoding.specs.Encode.{intField, head, lenField, fixField, encode, intO, intIf, rawIf, fixO, each, subO, eachSub}
 use Rattle.writers.specs.Pushed.{Pushed, maybe}
 use Rattle.writers.specs.PushedLaws.{_onto_, again, pushed-sub}
 use Rattle.writers.specs.declared.Maybe.{Maybe}
@@ -20,6 +20,10 @@ int-done n v = append-nil (intField n v)
 pub raw-done : (n : ℕ) (b : List ℕ) → encode (raw n b done) ≡ lenField n b
 unfolding encode
 raw-done n b = append-nil (lenField n b)
+
+pub fix-done : (n : ℕ) (b : List ℕ) → encode (fix n b done) ≡ fixField n b
+unfolding encode
+fix-done n b = append-nil (fixField n b)
 
 pub sub-done : (n : ℕ) (s : Tree) → encode (sub n s done) ≡ lenField n (encode s)
 unfolding encode
@@ -40,10 +44,21 @@ unfolding encode rawIf
 rawIf-parts n [] t = refl
 rawIf-parts n (b ∷ bs) t = rw (append-nil (lenField n (b ∷ bs)))
 
+subO-parts : (n : ℕ) (a : Option Tree) (t : Tree) → encode (subO n a done) ++ encode t ≡ encode (subO n a t)
+unfolding encode subO
+subO-parts n none t = refl
+subO-parts n (some s) t = rw (append-nil (lenField n (encode s)))
+
 pub each-parts : (n : ℕ) (bs : List (List ℕ)) (t : Tree) → encode (each n bs done) ++ encode t ≡ encode (each n bs t)
 unfolding encode each
 each-parts n [] t = refl
 each-parts n (b ∷ bs) t = append-assoc (lenField n b) (encode (each n bs done)) (encode t) ∙ ap (λ r. lenField n b ++ r) (each-parts n bs t)
+
+eachSub-parts : (n : ℕ) (ss : List Tree) (t : Tree) → encode (eachSub n ss done) ++ encode t ≡ encode (eachSub n ss t)
+unfolding encode eachSub
+eachSub-parts n [] t = refl
+eachSub-parts n (s ∷ ss) t =
+    append-assoc (lenField n (encode s)) (encode (eachSub n ss done)) (encode t) ∙ ap (λ r. lenField n (encode s) ++ r) (eachSub-parts n ss t)
 
 -- a part in front of the rest of a tree ---------------------------------------------------
 
@@ -69,6 +84,20 @@ pub rawIf-pushed : {r a at : ℕ} {l m o : List ℕ} (n : ℕ) (b : List ℕ) (t
     → Pushed r at (encode (rawIf n b t)) l o
 rawIf-pushed n b t p q = again (rawIf-parts n b t) (p onto q)
 
+pub subO-pushed : {r a at : ℕ} {l m o : List ℕ} (n : ℕ) (s : Option Tree) (t : Tree) → Pushed r a (encode (subO n s done)) m o → Pushed a at (encode t) l m
+    → Pushed r at (encode (subO n s t)) l o
+subO-pushed n s t p q = again (subO-parts n s t) (p onto q)
+
+-- one more message in front of those of a repeated field, and they in front of the rest
+pub eachSub-more : {r a at : ℕ} {l m o : List ℕ} (n : ℕ) (s : Tree) (ss : List Tree) (t : Tree) → Pushed r a (lenField n (encode s)) m o
+    → Pushed a at (encode (eachSub n ss t)) l m → Pushed r at (encode (eachSub n (s ∷ ss) t)) l o
+unfolding encode eachSub
+eachSub-more n s ss t p q = p onto q
+
+pub eachSub-pushed : {r a at : ℕ} {l m o : List ℕ} (n : ℕ) (ss : List Tree) (t : Tree) → Pushed r a (encode (eachSub n ss done)) m o → Pushed a at (encode t) l m
+    → Pushed r at (encode (eachSub n ss t)) l o
+eachSub-pushed n ss t p q = again (eachSub-parts n ss t) (p onto q)
+
 -- a message inside: its head, its bytes, and the rest
 pub sub-pushed : {r b a at : ℕ} {l m n o : List ℕ} (k : ℕ) (s t : Tree) → Pushed r b (head k (a - b)) n o → Pushed b a (encode s) m n
     → Pushed a at (encode t) l m → Pushed r at (encode (sub k s t)) l o
@@ -81,6 +110,9 @@ int-last n v p = again (sym (int-done n v)) p
 
 pub raw-last : {r at : ℕ} {l m : List ℕ} (n : ℕ) (b : List ℕ) → Pushed r at (lenField n b) l m → Pushed r at (encode (raw n b done)) l m
 raw-last n b p = again (sym (raw-done n b)) p
+
+pub fix-last : {r at : ℕ} {l m : List ℕ} (n : ℕ) (b : List ℕ) → Pushed r at (fixField n b) l m → Pushed r at (encode (fix n b done)) l m
+fix-last n b p = again (sym (fix-done n b)) p
 
 pub sub-last : {r a at : ℕ} {l m o : List ℕ} (k : ℕ) (s : Tree) → Pushed r a (head k (at - a)) m o → Pushed a at (encode s) l m
     → Pushed r at (encode (sub k s done)) l o
@@ -114,6 +146,14 @@ unfolding intIf
 nonzero-some n zero h = absurd (h refl)
 nonzero-some n (suc v) h = sym (int-done n (suc v))
 
+pub float-none : (n : ℕ) (o : Option (List ℕ)) → o ≡ none → [] ≡ encode (fixO n o done)
+unfolding encode fixO
+float-none n o e = ap (λ (o : Option (List ℕ)). encode (fixO n o done)) (sym e)
+
+pub float-some : (n : ℕ) (b : List ℕ) (o : Option (List ℕ)) → o ≡ some b → fixField n b ≡ encode (fixO n o done)
+unfolding fixO
+float-some n b o e = sym (fix-done n b) ∙ ap (λ (o : Option (List ℕ)). encode (fixO n o done)) (sym e)
+
 pub empty-none : (n : ℕ) (b : List ℕ) → length b ≡ 0 → [] ≡ encode (rawIf n b done)
 unfolding encode rawIf
 empty-none n [] h = refl
@@ -123,3 +163,12 @@ pub nonempty-some : (n : ℕ) (b : List ℕ) → (length b ≡ 0 → ⊥) → le
 unfolding rawIf
 nonempty-some n [] h = absurd (h refl)
 nonempty-some n (b ∷ bs) h = sym (raw-done n (b ∷ bs))
+
+-- a message that is left out, or not
+pub sub-none : (n : ℕ) (o : Option Tree) → o ≡ none → [] ≡ encode (subO n o done)
+unfolding encode subO
+sub-none n o e = ap (λ (o : Option Tree). encode (subO n o done)) (sym e)
+
+pub sub-some : (n : ℕ) (s : Tree) (o : Option Tree) → o ≡ some s → lenField n (encode s) ≡ encode (subO n o done)
+unfolding subO
+sub-some n s o e = sym (sub-done n s) ∙ ap (λ (o : Option Tree). encode (subO n o done)) (sym e)

@@ -20,9 +20,9 @@ same-length-2 c = c .before .before .before .before .out .given
 
 returns : tie.Need-returns
 returns c =
-    let z = c .before .before .before .before .before .before .before .before .before .before .before .before .before .before .before .before .args in
+    let z = c .before .before .before .before .before .before .before .before .before .before .before .before .before .before .before .before .before .args in
     let a = c .before .before .before .before .before .before .before .answer in
-    answering-call (now (z .store)) (now (z .device)) (now (z .connection)) (now (z .input)) (now (z .out)) (now (z .counts)) (c .before .before .before .before .before .before .before .before .before .before .before .connection-at .ensures) (a .last .0) (a .last .1 .0) (a .last .1 .1 .1 .1 .0) (a .result) (a .ensures) (c .note .ensures)
+    answering-call (now (z .store)) (now (z .device)) (now (z .connection)) (now (z .readings)) (now (z .input)) (now (z .out)) (now (z .counts)) (c .before .before .before .before .before .before .before .before .before .before .before .connection-at .ensures) (a .last .0) (a .last .1 .0) (a .last .1 .1 .1 .1 .1 .0) (a .result) (a .ensures) (c .note .ensures)
 
 pub ridgeladle-answer-spec : {M : Type 1} → statement M
 ridgeladle-answer-spec =

@@ -12,17 +12,17 @@ use borrow.Author.Needs.{needs}
 use Rattle.actions.proofs.perform.Statement.{statement}
 use Rattle.actions.proofs.perform.Tie as tie
 
-abbrev S : tie.After-shared-slice-known3 → tie.Start
-S m = m .before .before .before .before .before
+abbrev S : tie.After-shared-slice-known4 → tie.Start
+S m = m .before .before .before .before .before .before
 
-abbrev T : tie.After-shared-slice-known3 → Connection → State
-T m x = lent (now (S m .args .store)) (now (S m .args .device)) x
+abbrev T : tie.After-shared-slice-known4 → Connection → State
+T m x = lent (now (S m .args .store)) (now (S m .args .device)) (now (S m .args .readings)) x
 
-passed : (m : tie.After-shared-slice-known3) {o : Operation} → S m .args .o ≡ o → fault o (bodyView (now (S m .args .s)) (S m .args .b)) (now (S m .args .value)) ≡ 0
+passed : (m : tie.After-shared-slice-known4) {o : Operation} → S m .args .o ≡ o → fault o (bodyView (now (S m .args .s)) (S m .args .b)) (now (S m .args .value)) ≡ 0
 passed m e = subst (λ (o : Operation). fault o (bodyView (now (S m .args .s)) (S m .args .b)) (now (S m .args .value)) ≡ 0) e (S m .pre .4)
 
 -- an arm's reply is the one that is due
-done : (m : tie.After-shared-slice-known3) (x : Connection) {o : Operation} {n : ℕ} {out' : List ℕ} {t' : State} → S m .args .o ≡ o
+done : (m : tie.After-shared-slice-known4) (x : Connection) {o : Operation} {n : ℕ} {out' : List ℕ} {t' : State} → S m .args .o ≡ o
     → Sent (replied (S m .args .a) (now (S m .args .by)) (step10 (T m x) o (wholeView (now (S m .args .s)) (S m .args .b)) (now (S m .args .value)))) n (now (S m .args .out)) out' t'
     → Sent (replied (S m .args .a) (now (S m .args .by)) (step10 (T m x) (S m .args .o) (bodyView (now (S m .args .s)) (S m .args .b)) (now (S m .args .value)))) n (now (S m .args .out)) out' t'
 done m x e h =
@@ -100,12 +100,20 @@ setup-requires c κs = search needs
 enum-told-11 : tie.Need-enum-told-11
 enum-told-11 c = search needs
 
+get-log-requires : tie.Need-get-log-requires
+get-log-requires c κs =
+    let z = S (c .before .before .before .before) in
+    (z .pre .0, z .pre .1, z .pre .2, z .pre .5, record { inside = z .pre .3 .log .inside; reads = z .pre .3 .logReads })
+
+enum-told-12 : tie.Need-enum-told-12
+enum-told-12 c = search needs
+
 secure-requires : tie.Need-secure-requires
 secure-requires c κs =
     let e = c .before .before in
     let m = e .before .before in
     let z = S m in
-    (z .pre .0, z .pre .1, record { inside = z .pre .3 .security .inside; reads = z .pre .3 .reads }, table-good (now (z .args .s)) (z .args .b) (now (z .args .value)) (passed m (e .enum-told11 .given .1)))
+    (z .pre .0, z .pre .1, record { inside = z .pre .3 .security .inside; reads = z .pre .3 .reads }, table-good (now (z .args .s)) (z .args .b) (now (z .args .value)) (passed m (e .enum-told12 .given .1)))
 
 same-length : tie.Need-same-length
 same-length c = search needs
@@ -221,11 +229,23 @@ returns-10 c =
 same-length-18 : tie.Need-same-length-18
 same-length-18 c = search needs
 
+same-length-19 : tie.Need-same-length-19
+same-length-19 c = search needs
+
 returns-11 : tie.Need-returns-11
 returns-11 c =
     let e = c .before .before .before .before .before in
     let m = e .before .before in
-    λ (x : Connection). done m x (e .enum-told11 .given .1) (c .before .before .secure .ensures (T m x) refl)
+    λ (x : Connection). done m x (e .enum-told11 .given .1) (c .before .before .get-log .ensures (T m x) refl refl)
+
+same-length-20 : tie.Need-same-length-20
+same-length-20 c = search needs
+
+returns-12 : tie.Need-returns-12
+returns-12 c =
+    let e = c .before .before .before .before .before in
+    let m = e .before .before in
+    λ (x : Connection). done m x (e .enum-told12 .given .1) (c .before .before .secure .ensures (T m x) refl)
 
 pub perform-spec : {M : Type 1} → statement M
 perform-spec =
@@ -252,6 +272,8 @@ perform-spec =
     enum-told-10
     setup-requires
     enum-told-11
+    get-log-requires
+    enum-told-12
     secure-requires
     same-length
     returns
@@ -281,4 +303,7 @@ perform-spec =
     same-length-17
     returns-10
     same-length-18
-    returns-11)
+    same-length-19
+    returns-11
+    same-length-20
+    returns-12)

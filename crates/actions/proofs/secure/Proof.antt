@@ -2,7 +2,7 @@ use mathlib.Core.Path.{_≡_}
 use denote.Ref.{now}
 use Rattle.protocol.specs.State.{State, withDevice}
 use Rattle.scopes.specs.Stands.{aclsIn}
-use Rattle.showing.specs.Results.{sent-as}
+use Rattle.sending.specs.SentLaws.{sent-as}
 use Rattle.actions.proofs.Results.{secured}
 use borrow.Author.Needs.{needs}
 use Rattle.actions.proofs.secure.Statement.{statement}

@@ -1,7 +1,7 @@
 use mathlib.Core.Path.{_≡_, sym}
 use denote.Ref.{now}
 use Rattle.protocol.specs.State.{State, withDevice}
-use Rattle.showing.specs.Results.{sent-as}
+use Rattle.sending.specs.SentLaws.{sent-as}
 use borrow.Author.Needs.{needs}
 use Rattle.actions.proofs.setup.Statement.{statement}
 use Rattle.actions.proofs.setup.Tie as tie

@@ -29,9 +29,14 @@ broken-requires-3 c κs = search needs
 broken-requires-4 : tie.Need-broken-requires-4
 broken-requires-4 c κs = search needs
 
+log-code-requires : tie.Need-log-code-requires
+log-code-requires c κs =
+    let l = c .before .before .before .before .before .before .before .before .pre in
+    record { inside = l .log .inside; reads = l .logReads }
+
 security-code-requires : tie.Need-security-code-requires
 security-code-requires c κs =
-    let l = c .before .before .before .before .before .before .before .before .pre in
+    let l = c .before .before .before .before .before .before .before .before .before .pre in
     record { inside = l .security .inside; reads = l .reads }
 
 fault-requires : tie.Need-fault-requires
@@ -39,18 +44,19 @@ fault-requires c κs = search needs
 
 returns : tie.Need-returns
 returns c v e =
-    let b = c .before .before .before .before .before .before .before .before .before .before in
+    let b = c .before .before .before .before .before .before .before .before .before .before .before in
     let s = now (b .args .s) in
     let w = b .args .b in
     let l = b .pre in
-    let x0 = c .before .before .before .before .before .before .before .before in
-    let x1 = c .before .before .before .before .before .before .before in
-    let x2 = c .before .before .before .before .before .before in
-    let x3 = c .before .before .before .before .before in
-    let x4 = c .before .before .before .before in
-    let x5 = c .before .before .before in
-    let x6 = c .before .before in
-    let x7 = c .before in
+    let x0 = c .before .before .before .before .before .before .before .before .before in
+    let x1 = c .before .before .before .before .before .before .before .before in
+    let x2 = c .before .before .before .before .before .before .before in
+    let x3 = c .before .before .before .before .before .before in
+    let x4 = c .before .before .before .before .before in
+    let x5 = c .before .before .before .before in
+    let x6 = c .before .before .before in
+    let x7 = c .before .before in
+    let x8 = c .before in
     c .fault .ensures (bodyView s w) v
     (record {
       value = e;
@@ -58,7 +64,8 @@ returns c v e =
       change = sym (x3 .broken2 .ensures ∙ ap broken (x2 .change-right .ensures s (l .entry)));
       range = sym (x5 .broken3 .ensures ∙ ap broken (x4 .range-right .ensures s (l .range)));
       setup = ap broken (is-there (w .changed) (numView (w .cluster))) ∙ sym (x6 .broken4 .ensures);
-      security = λ o. sym (x7 .security-code .ensures o);
+      log = λ o. sym (x7 .log-code .ensures o);
+      security = λ o. sym (x8 .security-code .ensures o);
     })
 
 pub body-fault-spec : {M : Type 1} → statement M
@@ -72,6 +79,7 @@ body-fault-spec =
     range-right-requires
     broken-requires-3
     broken-requires-4
+    log-code-requires
     security-code-requires
     fault-requires
     returns)

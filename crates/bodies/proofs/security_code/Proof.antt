@@ -11,7 +11,7 @@ use Rattle.bodies.proofs.security_code.Tie as tie
 
 -- the tags of all operations but the last
 abbrev others : List ℕ
-others = 0 ∷ 1 ∷ 2 ∷ 3 ∷ 4 ∷ 5 ∷ 6 ∷ 7 ∷ 8 ∷ 9 ∷ []
+others = 0 ∷ 1 ∷ 2 ∷ 3 ∷ 4 ∷ 5 ∷ 6 ∷ 7 ∷ 8 ∷ 9 ∷ 10 ∷ []
 
 enum-told : tie.Need-enum-told
 enum-told c = search needs
@@ -23,7 +23,7 @@ returns : tie.Need-returns
 returns c = search needs
 
 returns-2 : tie.Need-returns-2
-returns-2 c e = absurd (miss others 10 tt (subst (λ (o : Operation). OneOf others (tagOf the-type o)) e (c .match .keys2)))
+returns-2 c e = absurd (miss others 11 tt (subst (λ (o : Operation). OneOf others (tagOf the-type o)) e (c .match .keys2)))
 
 pub security-code-spec : {M : Type 1} → statement M
 security-code-spec = tie.close (tie.spec enum-told security-fault-requires returns returns-2)

@@ -13,7 +13,7 @@ use Rattle.decisions.proofs.judge.Statement.{statement}
 use Rattle.decisions.proofs.judge.Tie as tie
 
 had : (c : tie.After-reply-type)
-    → let z = c .before .before .before .before .before .before .before .before .before .before .before in Had (z .args .q .headed) (z .args .q .header) (c .before .before .before .before .before .number-or .result) (c .before .before .before .before .in-header .result) (c .before .before .before .in-header2 .result) (c .before .before .in-header3 .result) (c .before .asked-by .result) (c .reply-type .result)
+    → let z = c .before .before .before .before .before .before .before .before .before .before .before .before in Had (z .args .q .headed) (z .args .q .header) (c .before .before .before .before .before .number-or .result) (c .before .before .before .before .in-header .result) (c .before .before .before .in-header2 .result) (c .before .before .in-header3 .result) (c .before .asked-by .result) (c .reply-type .result)
 had c =
     record {
       version = c .before .before .before .before .before .number-or .ensures;
@@ -46,7 +46,7 @@ header-fault-requires : tie.Need-header-fault-requires
 header-fault-requires c κs = search needs
 
 status-requires : tie.Need-status-requires
-status-requires c κs = let z = c .before .before .before .before .before .before .before .before .before .before .before .before .before .before .before in (z .pre .0, z .pre .1)
+status-requires c κs = let z = c .before .before .before .before .before .before .before .before .before .before .before .before .before .before .before .before in (z .pre .0, z .pre .1)
 
 same-length : tie.Need-same-length
 same-length c = search needs
@@ -55,14 +55,14 @@ returns : tie.Need-returns
 returns c =
     let x = c .before .before .before .before .before in
     let y = x .before .before in
-    let z = y .before .before .before .before .before .before .before .before .before .before .before in
+    let z = y .before .before .before .before .before .before .before .before .before .before .before .before in
     let q = z .args .q in
-    let s = lent (now (z .args .store)) (now (z .args .device)) (connectionOf (z .args .connection)) in
+    let s = lent (now (z .args .store)) (now (z .args .device)) (now (z .args .readings)) (connectionOf (z .args .connection)) in
     refused (had y) s (z .args .identity) (now (z .args .by)) (bodyView (now (z .args .s)) (q .body)) (aclOf (tableOf (now (z .args .device))) (z .args .place)) (now (z .args .value)) (x .header-fault .result) _ _ _
     (x .header-fault .ensures s (guard (q .headed) (headerView (q .header))) (heard-by (had y) s)) (c .before .before .before .before .if1 .taken) (c .before .before .status .ensures s)
 
 obey-requires : tie.Need-obey-requires
-obey-requires c κs = c .before .before .before .before .before .before .before .before .before .before .before .before .before .before .before .before .before .pre
+obey-requires c κs = c .before .before .before .before .before .before .before .before .before .before .before .before .before .before .before .before .before .before .pre
 
 accept-requires : tie.Need-accept-requires
 accept-requires c κs = search needs
@@ -78,10 +78,10 @@ returns-2 c =
     let p = c .before .before .before .before .before in
     let x = p .before .before .before .before .before in
     let y = x .before .before in
-    let z = y .before .before .before .before .before .before .before .before .before .before .before in
+    let z = y .before .before .before .before .before .before .before .before .before .before .before .before in
     let q = z .args .q in
     let h = guard (q .headed) (headerView (q .header)) in
-    let s = lent (now (z .args .store)) (now (z .args .device)) (connectionOf (z .args .connection)) in
+    let s = lent (now (z .args .store)) (now (z .args .device)) (now (z .args .readings)) (connectionOf (z .args .connection)) in
     accepts (had y) s (z .args .identity) (now (z .args .by)) (bodyView (now (z .args .s)) (q .body)) (aclOf (tableOf (now (z .args .device))) (z .args .place)) (now (z .args .value)) (x .header-fault .result) _ _ _
     (x .header-fault .ensures s h (heard-by (had y) s)) _ _ (connectionOf (c .accept .result)) (p .before .before .before .before .if1 .left) (c .accept .ensures)
     (p .obey .ensures (heard (connectionOf (z .args .connection)) (y .before .before .before .in-header2 .result .value)) (typeIn h) refl (asked-as (had y) s))

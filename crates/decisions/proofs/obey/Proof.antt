@@ -12,13 +12,13 @@ enum-known-asked : tie.Need-enum-known-asked
 enum-known-asked c = search needs
 
 serve-requires : tie.Need-serve-requires
-serve-requires c κs = c .before .before .before .before .before .before .before .before .before .before .before .pre
+serve-requires c κs = c .before .before .before .before .before .before .before .before .before .before .before .before .pre
 
 enum-told : tie.Need-enum-told
 enum-told c = search needs
 
 status-requires : tie.Need-status-requires
-status-requires c κs = let z = c .before .before .before .before .before .before .before .before in (z .pre .0, z .pre .1)
+status-requires c κs = let z = c .before .before .before .before .before .before .before .before .before in (z .pre .0, z .pre .1)
 
 same-length : tie.Need-same-length
 same-length c = search needs
@@ -30,8 +30,8 @@ returns : tie.Need-returns
 returns c =
     let p = c .before .before .before .before in
     let m = p .before .before .before .before .before in
-    let z = m .before .before .before .before .before .before .before in
-    λ k t e f. built (lent (now (z .args .store)) (now (z .args .device)) k) (aclOf (tableOf (now (z .args .device))) (z .args .place)) (bodyView (now (z .args .s)) (z .args .b)) (now (z .args .value)) (z .args .a) (now (z .args .by)) _ _ _
+    let z = m .before .before .before .before .before .before .before .before in
+    λ k t e f. built (lent (now (z .args .store)) (now (z .args .device)) (now (z .args .readings)) k) (aclOf (tableOf (now (z .args .device))) (z .args .place)) (bodyView (now (z .args .s)) (z .args .b)) (now (z .args .value)) (z .args .a) (now (z .args .by)) _ _ _
     (z .args .asked) t f (m .asked .given .0 .0) (m .asked .given .1) _ (p .serve .ensures k e)
 
 same-length-3 : tie.Need-same-length-3
@@ -39,8 +39,8 @@ same-length-3 c = search needs
 
 returns-2 : tie.Need-returns-2
 returns-2 c =
-    let z = c .before .before .before .before .before .before .before .before .before .before .before in
-    λ k t e f. let s = lent (now (z .args .store)) (now (z .args .device)) k in
+    let z = c .before .before .before .before .before .before .before .before .before .before .before .before in
+    λ k t e f. let s = lent (now (z .args .store)) (now (z .args .device)) (now (z .args .readings)) k in
     not-built s (aclOf (tableOf (now (z .args .device))) (z .args .place)) (bodyView (now (z .args .s)) (z .args .b)) (now (z .args .value)) (z .args .a) (now (z .args .by)) _ _ _
     (z .args .asked) t f (c .before .before .before .before .enum-told .given .1) (c .before .before .status .ensures s)
 

@@ -18,10 +18,10 @@ abbrev body : tie.Start → Body
 body z = bodyView (now (z .args .s)) (z .args .b)
 
 admit-requires : tie.Need-admit-requires
-admit-requires c κs = let z = c .before .before .before .before .before .before in (z .pre .3, z .pre .4)
+admit-requires c κs = let z = c .before .before .before .before .before .before .before in (z .pre .3, z .pre .4)
 
 status-requires : tie.Need-status-requires
-status-requires c κs = let z = c .before .before .before .before .before .before .before .before .before in (z .pre .0, z .pre .1)
+status-requires c κs = let z = c .before .before .before .before .before .before .before .before .before .before in (z .pre .0, z .pre .1)
 
 same-length : tie.Need-same-length
 same-length c = search needs
@@ -29,18 +29,18 @@ same-length c = search needs
 returns : tie.Need-returns
 returns c =
     let x = c .before .before .before .before .before in
-    let z = x .before .before .before .before .before .before .before in
+    let z = x .before .before .before .before .before .before .before .before in
     let v = now (z .args .value) in
-    λ k e. let s = lent (now (z .args .store)) (now (z .args .device)) k in
+    λ k e. let s = lent (now (z .args .store)) (now (z .args .device)) (now (z .args .readings)) k in
     not-admitted s (acl z) (z .args .o) (body z) v (z .args .a) (now (z .args .by)) _ _ _
     (z .args .protected) e (x .admit .result) (x .admit .ensures v refl) (c .before .before .before .before .if1 .taken) (c .before .before .status .ensures s)
 
 perform-requires : tie.Need-perform-requires
 perform-requires c κs =
     let x = c .before .before .before .before in
-    let z = x .before .before .before .before .before .before .before in
+    let z = x .before .before .before .before .before .before .before .before in
     let v = now (z .args .value) in
-    (z .pre .0, z .pre .1, z .pre .2, z .pre .4, admitted (acl z) (z .args .protected) (z .args .o) (body z) v (x .admit .ensures v refl) (c .before .before .before .if1 .left))
+    (z .pre .0, z .pre .1, z .pre .2, z .pre .4, admitted (acl z) (z .args .protected) (z .args .o) (body z) v (x .admit .ensures v refl) (c .before .before .before .if1 .left), z .pre .5)
 
 same-length-2 : tie.Need-same-length-2
 same-length-2 c = search needs
@@ -52,9 +52,9 @@ returns-2 : tie.Need-returns-2
 returns-2 c =
     let p = c .before .before .before .before in
     let x = p .before .before .before .before .before in
-    let z = x .before .before .before .before .before .before .before in
+    let z = x .before .before .before .before .before .before .before .before in
     let v = now (z .args .value) in
-    λ k e. done (lent (now (z .args .store)) (now (z .args .device)) k) (acl z) (z .args .o) (body z) v (z .args .a) (now (z .args .by)) _ _ _
+    λ k e. done (lent (now (z .args .store)) (now (z .args .device)) (now (z .args .readings)) k) (acl z) (z .args .o) (body z) v (z .args .a) (now (z .args .by)) _ _ _
     (z .args .protected) e (x .admit .result) (x .admit .ensures v refl) (p .before .before .before .before .if1 .left) _ (p .perform .ensures k)
 
 pub serve-spec : {M : Type 1} → statement M

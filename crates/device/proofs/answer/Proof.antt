@@ -10,7 +10,7 @@ use Rattle.access.specs.Record.{tableOf}
 use Rattle.protocol.specs.State.{State, lent}
 use Rattle.connections.specs.Means.{connectionOf}
 use Rattle.protocol.specs.Box.{box}
-use Rattle.protocol.specs.Refusals.{out-short, store-bad, device-bad, closed-before, not-refused}
+use Rattle.protocol.specs.CallRefusals.{out-short, store-bad, device-bad, closed-before, not-refused}
 use Rattle.responses.specs.Means.{afterwards}
 use Rattle.responses.specs.Laws.{told-out-short, told-store-bad, told-device-bad, told-closed}
 use borrow.Author.Needs.{needs}
@@ -18,17 +18,17 @@ use Rattle.device.proofs.answer.Statement.{statement}
 use Rattle.device.proofs.answer.Tie as tie
 
 abbrev state : tie.Start → State
-state z = lent (now (z .args .store)) (now (z .args .device)) (connectionOf (z .args .connection))
+state z = lent (now (z .args .store)) (now (z .args .device)) (now (z .args .readings)) (connectionOf (z .args .connection))
 
-sound : (c : tie.Else2) → storeGood (now (c .before .before .before .before .before .before .before .args .store)) ≡ true
+sound : (c : tie.Else2) → storeGood (now (c .before .before .before .before .before .before .before .before .args .store)) ≡ true
 sound c = sym (c .before .check .ensures) ∙ not-false _ (c .if2 .left)
 
-right : (c : tie.Else3) → tableGood (tableOf (now (c .before .before .before .before .before .before .before .before .before .before .args .device))) ≡ true
+right : (c : tie.Else3) → tableGood (tableOf (now (c .before .before .before .before .before .before .before .before .before .before .before .args .device))) ≡ true
 right c = sym (c .before .record-good .ensures) ∙ not-false _ (c .if3 .left)
 
 returns : tie.Need-returns
 returns c =
-    let z = c .before .before .before .before in
+    let z = c .before .before .before .before .before in
     told-out-short (state z) (now (z .args .out)) (now (z .args .input)) (out-short box (state z) (length (now (z .args .out))) (now (z .args .input)) (lt-ltb _ _ (c .if1 .taken)))
 
 check-requires : tie.Need-check-requires
@@ -39,7 +39,7 @@ same-length c = search needs
 
 returns-2 : tie.Need-returns-2
 returns-2 c =
-    let z = c .before .before .before .before .before .before .before in
+    let z = c .before .before .before .before .before .before .before .before in
     told-store-bad (state z) (now (z .args .out)) (now (z .args .input)) (store-bad box (state z) (length (now (z .args .out))) (now (z .args .input)) (le-ltb _ _ (c .before .before .before .if1 .left)) (sym (c .before .check .ensures) ∙ not-true _ (c .if2 .taken)))
 
 record-good-requires : tie.Need-record-good-requires
@@ -50,7 +50,7 @@ same-length-2 c = search needs
 
 returns-3 : tie.Need-returns-3
 returns-3 c =
-    let z = c .before .before .before .before .before .before .before .before .before .before in
+    let z = c .before .before .before .before .before .before .before .before .before .before .before in
     told-device-bad (state z) (now (z .args .out)) (now (z .args .input)) (device-bad box (state z) (length (now (z .args .out))) (now (z .args .input)) (le-ltb _ _ (c .before .before .before .before .before .before .if1 .left)) (sound (c .before .before .before)) (sym (c .before .record-good .ensures) ∙ not-true _ (c .if3 .taken)))
 
 same-length-3 : tie.Need-same-length-3
@@ -58,11 +58,11 @@ same-length-3 c = search needs
 
 returns-4 : tie.Need-returns-4
 returns-4 c =
-    let z = c .before .before .before .before .before .before .before .before .before .before .before in
+    let z = c .before .before .before .before .before .before .before .before .before .before .before .before in
     told-closed (state z) (now (z .args .out)) (now (z .args .input)) (closed-before box (state z) (length (now (z .args .out))) (now (z .args .input)) (le-ltb _ _ (c .before .before .before .before .before .before .before .if1 .left)) (sound (c .before .before .before .before)) (right (c .before)) (c .if4 .taken))
 
 serve-requires : tie.Need-serve-requires
-serve-requires c κs = (c .before .before .before .before .before .before .before .before .before .before .if1 .left, store-decides (now (c .before .before .before .before .before .before .before .before .before .before .before .before .before .before .args .store)) .yes (sound (c .before .before .before .before .before .before .before)), right (c .before .before .before .before))
+serve-requires c κs = (c .before .before .before .before .before .before .before .before .before .before .if1 .left, store-decides (now (c .before .before .before .before .before .before .before .before .before .before .before .before .before .before .before .args .store)) .yes (sound (c .before .before .before .before .before .before .before)), right (c .before .before .before .before))
 
 same-length-4 : tie.Need-same-length-4
 same-length-4 c = search needs
@@ -72,7 +72,7 @@ same-length-5 c = search needs
 
 returns-5 : tie.Need-returns-5
 returns-5 c =
-    let z = c .before .before .before .before .before .before .before .before .before .before .before .before .before .before .before .before .before .before .before in
+    let z = c .before .before .before .before .before .before .before .before .before .before .before .before .before .before .before .before .before .before .before .before in
     c .before .before .before .before .serve .ensures
     ∙ ap (afterwards (state z) (now (z .args .out))) (sym (not-refused box (state z) (length (now (z .args .out))) (now (z .args .input)) (le-ltb _ _ (c .before .before .before .before .before .before .before .before .before .before .before .before .before .before .before .if1 .left)) (sound (c .before .before .before .before .before .before .before .before .before .before .before .before)) (right (c .before .before .before .before .before .before .before .before .before)) (c .before .before .before .before .before .before .before .before .if4 .left)))
 

@@ -22,6 +22,9 @@ enum-told-4 c = search needs
 enum-told-5 : tie.Need-enum-told-5
 enum-told-5 c = search needs
 
+enum-told-6 : tie.Need-enum-told-6
+enum-told-6 c = search needs
+
 enum-known-r : tie.Need-enum-known-r
 enum-known-r c = search needs
 
@@ -44,7 +47,10 @@ returns-5 : tie.Need-returns-5
 returns-5 c = let z = c .before .before .args in sym (ap (notes (now (z .connection)) (now (z .counts))) (c .enum-told5 .given .1))
 
 returns-6 : tie.Need-returns-6
-returns-6 c =
+returns-6 c = let z = c .before .before .args in sym (ap (notes (now (z .connection)) (now (z .counts))) (c .enum-told6 .given .1))
+
+returns-7 : tie.Need-returns-7
+returns-7 c =
     let z = c .before .before .before .before .before .before .args in
     let x = c .before .before .before .before .r .given in
     ap (λ (l : List ℕ). noted 0 l (x .0 .1 .0 ∷ x .0 .0 ∷ [])) (c .update .ensures) ∙ sym (ap (notes (now (z .connection)) (now (z .counts))) (x .1))
@@ -58,6 +64,7 @@ note-spec =
     enum-told-3
     enum-told-4
     enum-told-5
+    enum-told-6
     enum-known-r
     update-requires
     returns
@@ -65,4 +72,5 @@ note-spec =
     returns-3
     returns-4
     returns-5
-    returns-6)
+    returns-6
+    returns-7)

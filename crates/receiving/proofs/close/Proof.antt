@@ -17,7 +17,7 @@ same-length c = search needs
 
 returns : tie.Need-returns
 returns c =
-    λ (store device : List ℕ). record { told = c .before .before .before .put-closing .ensures; left = ap (lent store device) (sym (c .close .ensures)) }
+    λ (store device readings : List ℕ). record { told = c .before .before .before .put-closing .ensures; left = ap (lent store device readings) (sym (c .close .ensures)) }
 
 pub close-spec : {M : Type 1} → statement M
 close-spec = tie.close (tie.spec put-closing-requires close-requires same-length returns)

@@ -14,9 +14,9 @@ use Rattle.receiving.proofs.respond.Statement.{statement}
 use Rattle.receiving.proofs.respond.Tie as tie
 
 abbrev state : tie.Start → State
-state z = lent (now (z .args .store)) (now (z .args .device)) (connectionOf (z .args .connection))
+state z = lent (now (z .args .store)) (now (z .args .device)) (now (z .args .readings)) (connectionOf (z .args .connection))
 
-found : (c : tie.After-place) → placeOf (tableOf (now (c .before .before .before .before .before .before .before .before .before .before .before .before .args .device))) (c .before .before .before .before .before .before .before .read-message .result .identity) ≡ At (c .place .given .0 .0)
+found : (c : tie.After-place) → placeOf (tableOf (now (c .before .before .before .before .before .before .before .before .before .before .before .before .before .args .device))) (c .before .before .before .before .before .before .before .read-message .result .identity) ≡ At (c .place .given .0 .0)
 found c = sym (c .before .before .find-identity .ensures) ∙ c .place .given .1
 
 read-message-requires : tie.Need-read-message-requires
@@ -30,11 +30,11 @@ same-length c = search needs
 
 returns : tie.Need-returns
 returns c =
-    let z = c .before .before .before .before .before .before .before .before .before .before in
+    let z = c .before .before .before .before .before .before .before .before .before .before .before in
     let a = z .args in
     let m = c .before .before .before .before .before .read-message in
     sent-as (unread (state z) (now (a .value)) (now (a .message)) (unsealed (now (a .message)) (m .result) (m .ensures .0) (not-true _ (c .before .before .before .before .if1 .taken))))
-    (c .before .before .close .ensures (now (a .store)) (now (a .device)))
+    (c .before .before .close .ensures (now (a .store)) (now (a .device)) (now (a .readings)))
 
 add-hmac-end : tie.Need-add-hmac-end
 add-hmac-end c = search needs
@@ -68,9 +68,9 @@ part-verify-end-2 c = search needs
 
 verify-requires : tie.Need-verify-requires
 verify-requires c κs =
-    let z = c .before .before .before .before .before .before .before .before .before .before .before .before .before .before .before .before .before .before in
+    let z = c .before .before .before .before .before .before .before .before .before .before .before .before .before .before .before .before .before .before .before in
     let l = z .pre .3 in
-    (z .pre .0, z .pre .1, z .pre .2, found (c .before .before .before .before .before .before), simp (length-take, length-drop) (omega arith))
+    (z .pre .0, z .pre .1, z .pre .2, found (c .before .before .before .before .before .before), simp (length-take, length-drop) (omega arith), z .pre .4)
 
 enum-told : tie.Need-enum-told
 enum-told c = search needs
@@ -86,7 +86,7 @@ same-length-3 c = search needs
 
 returns-2 : tie.Need-returns-2
 returns-2 c =
-    let z = c .before .before .before .before .before .before .before .before .before .before .before .before .before .before .before .before .before .before .before .before .before .before .before in
+    let z = c .before .before .before .before .before .before .before .before .before .before .before .before .before .before .before .before .before .before .before .before .before .before .before .before in
     let a = z .args in
     let m = c .before .before .before .before .before .before .before .before .before .before .before .before .before .before .before .before .before .before .read-message in
     sent-as (known (state z) (now (a .value)) (now (a .message)) (sealed (now (a .message)) (m .result) (m .ensures .0) (not-false _ (c .before .before .before .before .before .before .before .before .before .before .before .before .before .before .before .before .before .if1 .left))) (found (c .before .before .before .before .before .before .before .before .before .before .before)))
@@ -97,11 +97,11 @@ same-length-4 c = search needs
 
 returns-3 : tie.Need-returns-3
 returns-3 c =
-    let z = c .before .before .before .before .before .before .before .before .before .before .before .before .before .before .before .before in
+    let z = c .before .before .before .before .before .before .before .before .before .before .before .before .before .before .before .before .before in
     let a = z .args in
     let m = c .before .before .before .before .before .before .before .before .before .before .before .read-message in
     sent-as (unknown (state z) (now (a .value)) (now (a .message)) (sealed (now (a .message)) (m .result) (m .ensures .0) (not-false _ (c .before .before .before .before .before .before .before .before .before .before .if1 .left))) (sym (c .before .before .before .before .before .before .find-identity .ensures) ∙ c .before .before .before .before .enum-told .given .1))
-    (c .before .before .close2 .ensures (now (a .store)) (now (a .device)))
+    (c .before .before .close2 .ensures (now (a .store)) (now (a .device)) (now (a .readings)))
 
 pub respond-spec : {M : Type 1} → statement M
 respond-spec =

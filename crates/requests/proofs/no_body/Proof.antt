@@ -12,6 +12,8 @@ returns c s =
     record {
       entry = record { version = l; key = l; expected = l; tag = l; algorithm = omega arith };
       range = record { start = l; end = l };
+      log = l;
+      logReads = no-reads k.GetLog s;
       security = l;
       reads = no-reads k.Security s;
       key = sym (nil-at s);

@@ -23,28 +23,32 @@ part-of-requires-3 : tie.Need-part-of-requires-3
 part-of-requires-3 c κs = let b = c .before .before .before .before in let o = c .before .before .open-at in part-at k.Body (now (b .args .s)) (b .args .p) (o .result) (o .ensures) (b .pre) 3 (omega arith) refl
 
 part-of-requires-4 : tie.Need-part-of-requires-4
-part-of-requires-4 c κs = let b = c .before .before .before .before .before in let o = c .before .before .before .open-at in part-at k.Body (now (b .args .s)) (b .args .p) (o .result) (o .ensures) (b .pre) 7 (omega arith) refl
+part-of-requires-4 c κs = let b = c .before .before .before .before .before in let o = c .before .before .before .open-at in part-at k.Body (now (b .args .s)) (b .args .p) (o .result) (o .ensures) (b .pre) 6 (omega arith) refl
+
+part-of-requires-5 : tie.Need-part-of-requires-5
+part-of-requires-5 c κs = let b = c .before .before .before .before .before .before in let o = c .before .before .before .before .open-at in part-at k.Body (now (b .args .s)) (b .args .p) (o .result) (o .ensures) (b .pre) 7 (omega arith) refl
 
 read-key-value-requires : tie.Need-read-key-value-requires
-read-key-value-requires c κs = let b = c .before .before .before .before .before .before in let o = c .before .before .before .before .open-at in let x = c .before .before .before .part-of in sub-reads k.Body (now (b .args .s)) (b .args .p) (o .result) (o .ensures) (b .pre) 1 k.KeyValue refl (x .result) (x .ensures)
+read-key-value-requires c κs = let b = c .before .before .before .before .before .before .before in let o = c .before .before .before .before .before .open-at in let x = c .before .before .before .before .part-of in sub-reads k.Body (now (b .args .s)) (b .args .p) (o .result) (o .ensures) (b .pre) 1 k.KeyValue refl (x .result) (x .ensures)
 
 read-range-requires : tie.Need-read-range-requires
-read-range-requires c κs = let b = c .before .before .before .before .before .before .before in let o = c .before .before .before .before .before .open-at in let x = c .before .before .before .part-of2 in sub-reads k.Body (now (b .args .s)) (b .args .p) (o .result) (o .ensures) (b .pre) 2 k.Range refl (x .result) (x .ensures)
+read-range-requires c κs = let b = c .before .before .before .before .before .before .before .before in let o = c .before .before .before .before .before .before .open-at in let x = c .before .before .before .before .part-of2 in sub-reads k.Body (now (b .args .s)) (b .args .p) (o .result) (o .ensures) (b .pre) 2 k.Range refl (x .result) (x .ensures)
 
 read-setup-requires : tie.Need-read-setup-requires
-read-setup-requires c κs = let b = c .before .before .before .before .before .before .before .before in let o = c .before .before .before .before .before .before .open-at in let x = c .before .before .before .part-of3 in sub-reads k.Body (now (b .args .s)) (b .args .p) (o .result) (o .ensures) (b .pre) 3 k.Setup refl (x .result) (x .ensures)
+read-setup-requires c κs = let b = c .before .before .before .before .before .before .before .before .before in let o = c .before .before .before .before .before .before .before .open-at in let x = c .before .before .before .before .part-of3 in sub-reads k.Body (now (b .args .s)) (b .args .p) (o .result) (o .ensures) (b .pre) 3 k.Setup refl (x .result) (x .ensures)
 
 returns : tie.Need-returns
 returns c =
-    let b = c .before .before .before .before .before .before .before .before .before in
+    let b = c .before .before .before .before .before .before .before .before .before .before in
     let s = now (b .args .s) in
     let p = b .args .p in
-    let o = c .before .before .before .before .before .before .before .open-at in
+    let o = c .before .before .before .before .before .before .before .before .open-at in
     let t = o .result in
-    let x0 = c .before .before .before .before .before .before .part-of in
-    let x1 = c .before .before .before .before .before .part-of2 in
-    let x2 = c .before .before .before .before .part-of3 in
-    let x3 = c .before .before .before .part-of4 in
+    let x0 = c .before .before .before .before .before .before .before .part-of in
+    let x1 = c .before .before .before .before .before .before .part-of2 in
+    let x2 = c .before .before .before .before .before .part-of3 in
+    let l = c .before .before .before .before .part-of4 in
+    let x3 = c .before .before .before .part-of5 in
     let x4 = c .before .before .read-key-value in
     let x5 = c .before .read-range in
     let x6 = c .read-setup in
@@ -52,11 +56,14 @@ returns c =
     let y0 = sub-at k.Body s p t (o .ensures) (b .pre) 1 k.KeyValue refl (x0 .result) (x0 .ensures) in
     let y1 = sub-at k.Body s p t (o .ensures) (b .pre) 2 k.Range refl (x1 .result) (x1 .ensures) in
     let y2 = sub-at k.Body s p t (o .ensures) (b .pre) 3 k.Setup refl (x2 .result) (x2 .ensures) in
+    let yl = sub-at k.Body s p t (o .ensures) (b .pre) 6 k.GetLog refl (l .result) (l .ensures) in
     let y3 = sub-at k.Body s p t (o .ensures) (b .pre) 7 k.Security refl (x3 .result) (x3 .ensures) in (
-      body-law s u (x0 .result) (x1 .result) (x2 .result) (x3 .result) (x4 .result) (x5 .result) (x6 .result) y0 (x4 .ensures .0) y1 (x5 .ensures .0) y2 (x6 .ensures) y3,
+      body-law s u (x0 .result) (x1 .result) (x2 .result) (l .result) (x3 .result) (x4 .result) (x5 .result) (x6 .result) y0 (x4 .ensures .0) y1 (x5 .ensures .0) y2 (x6 .ensures) yl y3,
       record {
         entry = x4 .ensures .1;
         range = x5 .ensures .1;
+        log = l .ensures .lies;
+        logReads = yl .reads;
         security = x3 .ensures .lies;
         reads = y3 .reads;
         key = key-there s (x0 .result) (subAt 1 u) (x4 .result) y0 (x4 .ensures .0) (x4 .ensures .1 .key);
@@ -74,6 +81,7 @@ read-body-spec =
     part-of-requires-2
     part-of-requires-3
     part-of-requires-4
+    part-of-requires-5
     read-key-value-requires
     read-range-requires
     read-setup-requires

@@ -47,11 +47,11 @@ returns-2 c =
 small : (c : tie.Else2 Inv-loop μ-loop) → named (c .before .before .before .next-num .result .num .value) ≡ true
 small c = sym (c .before .is-permission .ensures) ∙ not-false _ (c .if2 .left)
 
-cast-with-permission : tie.Need-cast-with-permission Inv-loop μ-loop
-cast-with-permission c = let h = named-small _ (small c) in omega arith
+cast-with-bit : tie.Need-cast-with-bit Inv-loop μ-loop
+cast-with-bit c = let h = named-small _ (small c) in omega arith
 
-with-permission-requires : tie.Need-with-permission-requires Inv-loop μ-loop
-with-permission-requires c κs = named-small _ (small c)
+with-bit-requires : tie.Need-with-bit-requires Inv-loop μ-loop
+with-bit-requires c κs = named-small _ (small c)
 
 add-n : tie.Need-add-n Inv-loop μ-loop
 add-n c = search needs
@@ -66,7 +66,7 @@ loop-again c =
     let o = e .before .before .before .before .before .loop in
     let z = e .before .before .before .before .before .before .before in
     walk-on (now (z .args .s)) (z .args .p) (o .left) (o .mask) (o .n) (z .pre) (o .inv) (x .result) (x .ensures) (not-false _ (e .before .before .if1 .left))
-    (small e) (c .before .with-permission .result) (c .before .with-permission .ensures)
+    (small e) (c .before .with-bit .result) (c .before .with-bit .ensures)
 
 no-permissions-requires-2 : tie.Need-no-permissions-requires-2 Inv-loop μ-loop
 no-permissions-requires-2 c κs = search needs
@@ -89,8 +89,8 @@ permissions-of-spec =
     is-permission-requires
     no-permissions-requires
     returns-2
-    cast-with-permission
-    with-permission-requires
+    cast-with-bit
+    with-bit-requires
     add-n
     loop-less
     loop-again

@@ -4,7 +4,7 @@ use Rattle.protocol.specs.State.{State}
 use Rattle.protocol.specs.Judge.{shown}
 use Rattle.showing.specs.Sought.{sought}
 use Rattle.showing.specs.Slices.{cut-part}
-use Rattle.showing.specs.Results.{sent-as}
+use Rattle.sending.specs.SentLaws.{sent-as}
 use borrow.Author.Needs.{needs}
 use Rattle.showing.proofs.get.Statement.{statement}
 use Rattle.showing.proofs.get.Tie as tie

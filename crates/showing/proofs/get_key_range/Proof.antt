@@ -2,7 +2,7 @@ use mathlib.Core.Path.{_≡_}
 use denote.Ref.{now}
 use Rattle.protocol.specs.State.{State}
 use Rattle.showing.specs.Slices.{range-cut}
-use Rattle.showing.specs.Results.{sends-as}
+use Rattle.sending.specs.SentLaws.{sends-as}
 use borrow.Author.Needs.{needs}
 use Rattle.showing.proofs.get_key_range.Statement.{statement}
 use Rattle.showing.proofs.get_key_range.Tie as tie

@@ -3,7 +3,7 @@ use denote.Ref.{now}
 use Rattle.protocol.specs.State.{State}
 use Rattle.protocol.specs.Judge.{entryOf, versionShown}
 use Rattle.showing.specs.Slices.{cut-part}
-use Rattle.showing.specs.Results.{sent-as}
+use Rattle.sending.specs.SentLaws.{sent-as}
 use borrow.Author.Needs.{needs}
 use Rattle.showing.proofs.get_version.Statement.{statement}
 use Rattle.showing.proofs.get_version.Tie as tie

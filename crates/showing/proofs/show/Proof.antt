@@ -4,7 +4,7 @@ use Rattle.protocol.specs.State.{State}
 use Rattle.protocol.specs.Judge.{shown}
 use Rattle.queries.specs.declared.Shown.{Shown}
 use Rattle.queries.specs.Given.{PartsInside, entryShown}
-use Rattle.showing.specs.Results.{sent-as}
+use Rattle.sending.specs.SentLaws.{sent-as}
 use borrow.Author.Needs.{needs}
 use Rattle.showing.proofs.show.Statement.{statement}
 use Rattle.showing.proofs.show.Tie as tie

@@ -2,7 +2,7 @@ use denote.Ref.{now}
 use native.Mathlib.Omega.{arith}
 use Rattle.protocol.specs.State.{State}
 use Rattle.showing.specs.Slices.{cut-short, entry-cut}
-use Rattle.showing.specs.Results.{sends-as}
+use Rattle.sending.specs.SentLaws.{sends-as}
 use borrow.Author.Needs.{needs}
 use Rattle.showing.proofs.show_entry.Statement.{statement}
 use Rattle.showing.proofs.show_entry.Tie as tie

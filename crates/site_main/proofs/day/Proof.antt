@@ -1,16 +1,14 @@
 use borrow.Author.Needs.{needs}
 use Prim.Native.Nat.{_≤_, _-_}
-use mathlib.Core.Path.{_≡_}
 use lib.ListN.{length}
 use Rattle.site_main.proofs.day.Statement.{statement}
 use Rattle.site_main.proofs.day.Tie as tie
 
 abbrev Inv-loop : tie.InvT-loop
-Inv-loop s store₀ device₀ slots₀ out₀ host₀ at₀ store device slots out host at =
-    (at₀ ≤ at) × (length store ≡ length store₀) × (length slots ≡ length slots₀) × (length out ≡ length out₀)
+Inv-loop s store₀ device₀ readings₀ slots₀ host₀ at₀ store device readings slots host at = at₀ ≤ at
 
 abbrev μ-loop : tie.MeasureT-loop
-μ-loop s store₀ device₀ slots₀ out₀ host₀ at₀ store device slots out host at = length s - at
+μ-loop s store₀ device₀ readings₀ slots₀ host₀ at₀ store device readings slots host at = length s - at
 
 loop-holds : tie.Need-loop-holds Inv-loop μ-loop
 loop-holds c = search needs
@@ -39,15 +37,6 @@ loop-less c = search needs
 loop-again : tie.Need-loop-again Inv-loop μ-loop
 loop-again c = search needs
 
-same-length : tie.Need-same-length Inv-loop μ-loop
-same-length c = search needs
-
-same-length-2 : tie.Need-same-length-2 Inv-loop μ-loop
-same-length-2 c = search needs
-
-same-length-3 : tie.Need-same-length-3 Inv-loop μ-loop
-same-length-3 c = search needs
-
 returns : tie.Need-returns Inv-loop μ-loop
 returns c = search needs
 
@@ -66,7 +55,4 @@ day-spec =
     add-at
     loop-less
     loop-again
-    same-length
-    same-length-2
-    same-length-3
     returns)

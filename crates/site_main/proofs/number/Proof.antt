@@ -1,14 +1,16 @@
 use borrow.Author.Needs.{needs}
 use Prim.Native.Nat.{_≤_, _-_}
-use lib.ListN.{length}
 use Rattle.site_main.proofs.number.Statement.{statement}
 use Rattle.site_main.proofs.number.Tie as tie
 
 abbrev Inv-loop : tie.InvT-loop
-Inv-loop s v₀ i₀ v i = i ≤ length s
+Inv-loop s end v₀ i₀ v i = i ≤ end
 
 abbrev μ-loop : tie.MeasureT-loop
-μ-loop s v₀ i₀ v i = length s - i
+μ-loop s end v₀ i₀ v i = end - i
+
+place-of-requires : tie.Need-place-of-requires Inv-loop μ-loop
+place-of-requires c κs = search needs
 
 loop-holds : tie.Need-loop-holds Inv-loop μ-loop
 loop-holds c = search needs
@@ -49,6 +51,7 @@ number-spec =
     (tie.spec
     Inv-loop
     μ-loop
+    place-of-requires
     loop-holds
     returns
     mul-v

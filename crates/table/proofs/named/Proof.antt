@@ -1,6 +1,6 @@
 -- `table::named` meets its contract: one law for every arm with a number, one for every last arm.
 use Rattle.table.proofs.Tables.{in-name, no-name}
-use Rattle.tree.specs.declared.Names.the-variants.{Priority, Algorithm, Synchronization, StatusCode}
+use Rattle.tree.specs.declared.Names.the-variants.{Priority, Algorithm, Synchronization, LogType, StatusCode}
 use borrow.Author.Needs.{needs}
 use Rattle.table.proofs.named.Statement.{statement}
 use Rattle.table.proofs.named.Tie as tie
@@ -16,6 +16,9 @@ enum-told-3 c = search needs
 
 enum-told-4 : tie.Need-enum-told-4
 enum-told-4 c = search needs
+
+enum-told-5 : tie.Need-enum-told-5
+enum-told-5 c = search needs
 
 returns : tie.Need-returns
 returns c = in-name (c .before .enum-told .given .1) (c .match2 .keys1)
@@ -93,16 +96,43 @@ returns-25 : tie.Need-returns-25
 returns-25 c = in-name (c .before .enum-told4 .given .1) (c .match5 .keys8)
 
 returns-26 : tie.Need-returns-26
-returns-26 c = in-name (c .before .enum-told4 .given .1) (c .match5 .keys9)
+returns-26 c = no-name (c .before .before .before .args .v) LogType (c .before .enum-told4 .given .1) (c .match5 .rest)
 
 returns-27 : tie.Need-returns-27
-returns-27 c = in-name (c .before .enum-told4 .given .1) (c .match5 .keys10)
+returns-27 c = in-name (c .before .enum-told5 .given .1) (c .match6 .keys1)
 
 returns-28 : tie.Need-returns-28
-returns-28 c = in-name (c .before .enum-told4 .given .1) (c .match5 .keys11)
+returns-28 c = in-name (c .before .enum-told5 .given .1) (c .match6 .keys2)
 
 returns-29 : tie.Need-returns-29
-returns-29 c = no-name (c .before .before .before .args .v) StatusCode (c .before .enum-told4 .given .1) (c .match5 .rest)
+returns-29 c = in-name (c .before .enum-told5 .given .1) (c .match6 .keys3)
+
+returns-30 : tie.Need-returns-30
+returns-30 c = in-name (c .before .enum-told5 .given .1) (c .match6 .keys4)
+
+returns-31 : tie.Need-returns-31
+returns-31 c = in-name (c .before .enum-told5 .given .1) (c .match6 .keys5)
+
+returns-32 : tie.Need-returns-32
+returns-32 c = in-name (c .before .enum-told5 .given .1) (c .match6 .keys6)
+
+returns-33 : tie.Need-returns-33
+returns-33 c = in-name (c .before .enum-told5 .given .1) (c .match6 .keys7)
+
+returns-34 : tie.Need-returns-34
+returns-34 c = in-name (c .before .enum-told5 .given .1) (c .match6 .keys8)
+
+returns-35 : tie.Need-returns-35
+returns-35 c = in-name (c .before .enum-told5 .given .1) (c .match6 .keys9)
+
+returns-36 : tie.Need-returns-36
+returns-36 c = in-name (c .before .enum-told5 .given .1) (c .match6 .keys10)
+
+returns-37 : tie.Need-returns-37
+returns-37 c = in-name (c .before .enum-told5 .given .1) (c .match6 .keys11)
+
+returns-38 : tie.Need-returns-38
+returns-38 c = no-name (c .before .before .before .args .v) StatusCode (c .before .enum-told5 .given .1) (c .match6 .rest)
 
 pub named-spec : {M : Type 1} → statement M
 named-spec =
@@ -112,6 +142,7 @@ named-spec =
     enum-told-2
     enum-told-3
     enum-told-4
+    enum-told-5
     returns
     returns-2
     returns-3
@@ -140,4 +171,13 @@ named-spec =
     returns-26
     returns-27
     returns-28
-    returns-29)
+    returns-29
+    returns-30
+    returns-31
+    returns-32
+    returns-33
+    returns-34
+    returns-35
+    returns-36
+    returns-37
+    returns-38)

@@ -1,6 +1,6 @@
 -- `table::rule_of` meets its contract: one law for every arm with a number, one for every last arm.
 use Rattle.table.proofs.Tables.{in-arm, in-none}
-use Rattle.tree.specs.declared.Kind.the-variants.{Message, HmacAuth, Command, Header, Body, KeyValue, Range, Setup, Security, Acl, Scope, ReplyCommand, ReplyBody, ReplyRange, Status}
+use Rattle.tree.specs.declared.Kind.the-variants.{Message, HmacAuth, Command, Header, Body, KeyValue, Range, Setup, GetLog, Security, Acl, Scope, ReplyCommand, ReplyBody, ReplyRange, ReplyGetLog, Utilization, Temperature, Capacity, Limits, Status}
 use borrow.Author.Needs.{needs}
 use Rattle.table.proofs.rule_of.Statement.{statement}
 use Rattle.table.proofs.rule_of.Tie as tie
@@ -49,6 +49,24 @@ enum-told-14 c = search needs
 
 enum-told-15 : tie.Need-enum-told-15
 enum-told-15 c = search needs
+
+enum-told-16 : tie.Need-enum-told-16
+enum-told-16 c = search needs
+
+enum-told-17 : tie.Need-enum-told-17
+enum-told-17 c = search needs
+
+enum-told-18 : tie.Need-enum-told-18
+enum-told-18 c = search needs
+
+enum-told-19 : tie.Need-enum-told-19
+enum-told-19 c = search needs
+
+enum-told-20 : tie.Need-enum-told-20
+enum-told-20 c = search needs
+
+enum-told-21 : tie.Need-enum-told-21
+enum-told-21 c = search needs
 
 returns : tie.Need-returns
 returns c = in-arm (c .before .enum-told .given .1) (c .match2 .keys1)
@@ -213,109 +231,181 @@ returns-54 : tie.Need-returns-54
 returns-54 c = in-arm (c .before .enum-told9 .given .1) (c .match10 .keys1)
 
 returns-55 : tie.Need-returns-55
-returns-55 c = in-none (c .before .before .before .args .n) Security (c .before .enum-told9 .given .1) (c .match10 .rest)
+returns-55 c = in-none (c .before .before .before .args .n) GetLog (c .before .enum-told9 .given .1) (c .match10 .rest)
 
 returns-56 : tie.Need-returns-56
 returns-56 c = in-arm (c .before .enum-told10 .given .1) (c .match11 .keys1)
 
 returns-57 : tie.Need-returns-57
-returns-57 c = in-arm (c .before .enum-told10 .given .1) (c .match11 .keys2)
+returns-57 c = in-none (c .before .before .before .args .n) Security (c .before .enum-told10 .given .1) (c .match11 .rest)
 
 returns-58 : tie.Need-returns-58
-returns-58 c = in-arm (c .before .enum-told10 .given .1) (c .match11 .keys3)
+returns-58 c = in-arm (c .before .enum-told11 .given .1) (c .match12 .keys1)
 
 returns-59 : tie.Need-returns-59
-returns-59 c = in-arm (c .before .enum-told10 .given .1) (c .match11 .keys4)
+returns-59 c = in-arm (c .before .enum-told11 .given .1) (c .match12 .keys2)
 
 returns-60 : tie.Need-returns-60
-returns-60 c = in-none (c .before .before .before .args .n) Acl (c .before .enum-told10 .given .1) (c .match11 .rest)
+returns-60 c = in-arm (c .before .enum-told11 .given .1) (c .match12 .keys3)
 
 returns-61 : tie.Need-returns-61
-returns-61 c = in-arm (c .before .enum-told11 .given .1) (c .match12 .keys1)
+returns-61 c = in-arm (c .before .enum-told11 .given .1) (c .match12 .keys4)
 
 returns-62 : tie.Need-returns-62
-returns-62 c = in-arm (c .before .enum-told11 .given .1) (c .match12 .keys2)
+returns-62 c = in-none (c .before .before .before .args .n) Acl (c .before .enum-told11 .given .1) (c .match12 .rest)
 
 returns-63 : tie.Need-returns-63
-returns-63 c = in-arm (c .before .enum-told11 .given .1) (c .match12 .keys3)
+returns-63 c = in-arm (c .before .enum-told12 .given .1) (c .match13 .keys1)
 
 returns-64 : tie.Need-returns-64
-returns-64 c = in-arm (c .before .enum-told11 .given .1) (c .match12 .keys4)
+returns-64 c = in-arm (c .before .enum-told12 .given .1) (c .match13 .keys2)
 
 returns-65 : tie.Need-returns-65
-returns-65 c = in-none (c .before .before .before .args .n) Scope (c .before .enum-told11 .given .1) (c .match12 .rest)
+returns-65 c = in-arm (c .before .enum-told12 .given .1) (c .match13 .keys3)
 
 returns-66 : tie.Need-returns-66
-returns-66 c = in-arm (c .before .enum-told12 .given .1) (c .match13 .keys1)
+returns-66 c = in-arm (c .before .enum-told12 .given .1) (c .match13 .keys4)
 
 returns-67 : tie.Need-returns-67
-returns-67 c = in-arm (c .before .enum-told12 .given .1) (c .match13 .keys2)
+returns-67 c = in-none (c .before .before .before .args .n) Scope (c .before .enum-told12 .given .1) (c .match13 .rest)
 
 returns-68 : tie.Need-returns-68
-returns-68 c = in-arm (c .before .enum-told12 .given .1) (c .match13 .keys3)
+returns-68 c = in-arm (c .before .enum-told13 .given .1) (c .match14 .keys1)
 
 returns-69 : tie.Need-returns-69
-returns-69 c = let r = c .match13 .rest in in-none (c .before .before .before .args .n) ReplyCommand (c .before .enum-told12 .given .1) (((((tt, (r .0 .1)), (r .1)), (r .0 .0 .1)), (r .0 .1)), (r .1))
+returns-69 c = in-arm (c .before .enum-told13 .given .1) (c .match14 .keys2)
 
 returns-70 : tie.Need-returns-70
-returns-70 c = in-arm (c .before .enum-told13 .given .1) (c .match14 .keys1)
+returns-70 c = in-arm (c .before .enum-told13 .given .1) (c .match14 .keys3)
 
 returns-71 : tie.Need-returns-71
-returns-71 c = in-arm (c .before .enum-told13 .given .1) (c .match14 .keys2)
+returns-71 c = let r = c .match14 .rest in in-none (c .before .before .before .args .n) ReplyCommand (c .before .enum-told13 .given .1) (((((tt, (r .0 .1)), (r .1)), (r .0 .0 .1)), (r .0 .1)), (r .1))
 
 returns-72 : tie.Need-returns-72
-returns-72 c = in-arm (c .before .enum-told13 .given .1) (c .match14 .keys3)
+returns-72 c = in-arm (c .before .enum-told14 .given .1) (c .match15 .keys1)
 
 returns-73 : tie.Need-returns-73
-returns-73 c = in-arm (c .before .enum-told13 .given .1) (c .match14 .keys4)
+returns-73 c = in-arm (c .before .enum-told14 .given .1) (c .match15 .keys2)
 
 returns-74 : tie.Need-returns-74
-returns-74 c = in-arm (c .before .enum-told13 .given .1) (c .match14 .keys5)
+returns-74 c = in-arm (c .before .enum-told14 .given .1) (c .match15 .keys3)
 
 returns-75 : tie.Need-returns-75
-returns-75 c = in-arm (c .before .enum-told13 .given .1) (c .match14 .keys6)
+returns-75 c = in-arm (c .before .enum-told14 .given .1) (c .match15 .keys4)
 
 returns-76 : tie.Need-returns-76
-returns-76 c = in-arm (c .before .enum-told13 .given .1) (c .match14 .keys7)
+returns-76 c = in-arm (c .before .enum-told14 .given .1) (c .match15 .keys5)
 
 returns-77 : tie.Need-returns-77
-returns-77 c = in-arm (c .before .enum-told13 .given .1) (c .match14 .keys8)
+returns-77 c = in-arm (c .before .enum-told14 .given .1) (c .match15 .keys6)
 
 returns-78 : tie.Need-returns-78
-returns-78 c = in-arm (c .before .enum-told13 .given .1) (c .match14 .keys9)
+returns-78 c = in-arm (c .before .enum-told14 .given .1) (c .match15 .keys7)
 
 returns-79 : tie.Need-returns-79
-returns-79 c = let r = c .match14 .rest in in-none (c .before .before .before .args .n) ReplyBody (c .before .enum-told13 .given .1) ((((((((((tt, (r .0 .0 .0 .0 .0 .0 .0 .1)), (r .0 .0 .0 .0 .0 .0 .0 .0 .1)), (r .0 .0 .0 .0 .0 .0 .0 .1)), (r .0 .0 .0 .0 .0 .0 .1)), (r .0 .0 .0 .0 .0 .1)), (r .0 .0 .0 .0 .1)), (r .0 .0 .0 .1)), (r .0 .0 .1)), (r .0 .1)), (r .1))
+returns-79 c = in-arm (c .before .enum-told14 .given .1) (c .match15 .keys8)
 
 returns-80 : tie.Need-returns-80
-returns-80 c = in-arm (c .before .enum-told14 .given .1) (c .match15 .keys1)
+returns-80 c = in-arm (c .before .enum-told14 .given .1) (c .match15 .keys9)
 
 returns-81 : tie.Need-returns-81
-returns-81 c = in-arm (c .before .enum-told14 .given .1) (c .match15 .keys2)
+returns-81 c = let r = c .match15 .rest in in-none (c .before .before .before .args .n) ReplyBody (c .before .enum-told14 .given .1) (((((((((((tt, (r .0 .0 .0 .0 .0 .0 .0 .1)), (r .0 .0 .0 .0 .1)), (r .0 .0 .0 .0 .0 .0 .0 .0 .1)), (r .0 .0 .0 .0 .0 .0 .0 .1)), (r .0 .0 .0 .0 .0 .0 .1)), (r .0 .0 .0 .0 .0 .1)), (r .0 .0 .0 .0 .1)), (r .0 .0 .0 .1)), (r .0 .0 .1)), (r .0 .1)), (r .1))
 
 returns-82 : tie.Need-returns-82
-returns-82 c = in-arm (c .before .enum-told14 .given .1) (c .match15 .keys3)
+returns-82 c = in-arm (c .before .enum-told15 .given .1) (c .match16 .keys1)
 
 returns-83 : tie.Need-returns-83
-returns-83 c = in-arm (c .before .enum-told14 .given .1) (c .match15 .keys4)
+returns-83 c = in-arm (c .before .enum-told15 .given .1) (c .match16 .keys2)
 
 returns-84 : tie.Need-returns-84
-returns-84 c = in-arm (c .before .enum-told14 .given .1) (c .match15 .keys5)
+returns-84 c = in-arm (c .before .enum-told15 .given .1) (c .match16 .keys3)
 
 returns-85 : tie.Need-returns-85
-returns-85 c = in-arm (c .before .enum-told14 .given .1) (c .match15 .keys6)
+returns-85 c = in-arm (c .before .enum-told15 .given .1) (c .match16 .keys4)
 
 returns-86 : tie.Need-returns-86
-returns-86 c = in-arm (c .before .enum-told14 .given .1) (c .match15 .keys7)
+returns-86 c = in-arm (c .before .enum-told15 .given .1) (c .match16 .keys5)
 
 returns-87 : tie.Need-returns-87
-returns-87 c = let r = c .match15 .rest in in-none (c .before .before .before .args .n) ReplyRange (c .before .enum-told14 .given .1) ((((((((tt, (r .1)), (r .0 .0 .0 .0 .0 .0 .1)), (r .0 .0 .0 .0 .0 .1)), (r .0 .0 .0 .0 .1)), (r .0 .0 .0 .1)), (r .0 .0 .1)), (r .0 .1)), (r .1))
+returns-87 c = in-arm (c .before .enum-told15 .given .1) (c .match16 .keys6)
 
 returns-88 : tie.Need-returns-88
-returns-88 c = in-arm (c .before .enum-told15 .given .1) (c .match16 .keys1)
+returns-88 c = in-arm (c .before .enum-told15 .given .1) (c .match16 .keys7)
 
 returns-89 : tie.Need-returns-89
-returns-89 c = in-none (c .before .before .before .args .n) Status (c .before .enum-told15 .given .1) (c .match16 .rest)
+returns-89 c = let r = c .match16 .rest in in-none (c .before .before .before .args .n) ReplyRange (c .before .enum-told15 .given .1) ((((((((tt, (r .1)), (r .0 .0 .0 .0 .0 .0 .1)), (r .0 .0 .0 .0 .0 .1)), (r .0 .0 .0 .0 .1)), (r .0 .0 .0 .1)), (r .0 .0 .1)), (r .0 .1)), (r .1))
+
+returns-90 : tie.Need-returns-90
+returns-90 c = in-arm (c .before .enum-told16 .given .1) (c .match17 .keys1)
+
+returns-91 : tie.Need-returns-91
+returns-91 c = in-arm (c .before .enum-told16 .given .1) (c .match17 .keys2)
+
+returns-92 : tie.Need-returns-92
+returns-92 c = in-arm (c .before .enum-told16 .given .1) (c .match17 .keys3)
+
+returns-93 : tie.Need-returns-93
+returns-93 c = in-arm (c .before .enum-told16 .given .1) (c .match17 .keys4)
+
+returns-94 : tie.Need-returns-94
+returns-94 c = in-none (c .before .before .before .args .n) ReplyGetLog (c .before .enum-told16 .given .1) (c .match17 .rest)
+
+returns-95 : tie.Need-returns-95
+returns-95 c = in-arm (c .before .enum-told17 .given .1) (c .match18 .keys1)
+
+returns-96 : tie.Need-returns-96
+returns-96 c = in-arm (c .before .enum-told17 .given .1) (c .match18 .keys2)
+
+returns-97 : tie.Need-returns-97
+returns-97 c = in-none (c .before .before .before .args .n) Utilization (c .before .enum-told17 .given .1) (c .match18 .rest)
+
+returns-98 : tie.Need-returns-98
+returns-98 c = in-arm (c .before .enum-told18 .given .1) (c .match19 .keys1)
+
+returns-99 : tie.Need-returns-99
+returns-99 c = in-arm (c .before .enum-told18 .given .1) (c .match19 .keys2)
+
+returns-100 : tie.Need-returns-100
+returns-100 c = in-none (c .before .before .before .args .n) Temperature (c .before .enum-told18 .given .1) (c .match19 .rest)
+
+returns-101 : tie.Need-returns-101
+returns-101 c = in-arm (c .before .enum-told19 .given .1) (c .match20 .keys1)
+
+returns-102 : tie.Need-returns-102
+returns-102 c = in-arm (c .before .enum-told19 .given .1) (c .match20 .keys2)
+
+returns-103 : tie.Need-returns-103
+returns-103 c = in-none (c .before .before .before .args .n) Capacity (c .before .enum-told19 .given .1) (c .match20 .rest)
+
+returns-104 : tie.Need-returns-104
+returns-104 c = in-arm (c .before .enum-told20 .given .1) (c .match21 .keys1)
+
+returns-105 : tie.Need-returns-105
+returns-105 c = in-arm (c .before .enum-told20 .given .1) (c .match21 .keys2)
+
+returns-106 : tie.Need-returns-106
+returns-106 c = in-arm (c .before .enum-told20 .given .1) (c .match21 .keys3)
+
+returns-107 : tie.Need-returns-107
+returns-107 c = in-arm (c .before .enum-told20 .given .1) (c .match21 .keys4)
+
+returns-108 : tie.Need-returns-108
+returns-108 c = in-arm (c .before .enum-told20 .given .1) (c .match21 .keys5)
+
+returns-109 : tie.Need-returns-109
+returns-109 c = in-arm (c .before .enum-told20 .given .1) (c .match21 .keys6)
+
+returns-110 : tie.Need-returns-110
+returns-110 c = in-arm (c .before .enum-told20 .given .1) (c .match21 .keys7)
+
+returns-111 : tie.Need-returns-111
+returns-111 c = in-none (c .before .before .before .args .n) Limits (c .before .enum-told20 .given .1) (c .match21 .rest)
+
+returns-112 : tie.Need-returns-112
+returns-112 c = in-arm (c .before .enum-told21 .given .1) (c .match22 .keys1)
+
+returns-113 : tie.Need-returns-113
+returns-113 c = in-none (c .before .before .before .args .n) Status (c .before .enum-told21 .given .1) (c .match22 .rest)
 
 pub rule-of-spec : {M : Type 1} → statement M
 rule-of-spec =
@@ -336,6 +426,12 @@ rule-of-spec =
     enum-told-13
     enum-told-14
     enum-told-15
+    enum-told-16
+    enum-told-17
+    enum-told-18
+    enum-told-19
+    enum-told-20
+    enum-told-21
     returns
     returns-2
     returns-3
@@ -424,4 +520,28 @@ rule-of-spec =
     returns-86
     returns-87
     returns-88
-    returns-89)
+    returns-89
+    returns-90
+    returns-91
+    returns-92
+    returns-93
+    returns-94
+    returns-95
+    returns-96
+    returns-97
+    returns-98
+    returns-99
+    returns-100
+    returns-101
+    returns-102
+    returns-103
+    returns-104
+    returns-105
+    returns-106
+    returns-107
+    returns-108
+    returns-109
+    returns-110
+    returns-111
+    returns-112
+    returns-113)

@@ -1,4 +1,4 @@
-use Rattle.fields.proofs.Judging.{single-below, judges-unlisted, judges-refused, judges-twice, judges-single, judges-repeated}
+use Rattle.fields.proofs.Judging.{marked-below, judges-not, judges-never, judges-as}
 use borrow.Author.Needs.{needs}
 use Rattle.fields.proofs.judge.judge.Statement.{statement}
 use Rattle.fields.proofs.judge.judge.Tie as tie
@@ -8,6 +8,9 @@ number-of-requires c κs = search needs
 
 rule-of-requires : tie.Need-rule-of-requires
 rule-of-requires c κs = search needs
+
+by-rule-requires : tie.Need-by-rule-requires
+by-rule-requires c κs = let z = c .before .before in (z .pre, marked-below (z .args .kind) (c .before .number-of .result) (c .rule-of .result) (c .rule-of .ensures))
 
 enum-told : tie.Need-enum-told
 enum-told c = search needs
@@ -21,35 +24,37 @@ enum-told-2 c = search needs
 enum-known-form : tie.Need-enum-known-form
 enum-known-form c = search needs
 
-marked-requires : tie.Need-marked-requires
-marked-requires c κs = let a = c .before .before .before .before .before .args in let n = c .before .before .before .before .number-of in let r = c .before .before .before .rule-of in single-below (a .kind) (n .result) (r .ensures) (c .before .form .given .1)
-
-returns : tie.Need-returns
-returns c = let a = c .before .before .before .before .before .before .before .args in let n = c .before .before .before .before .before .before .number-of in let r = c .before .before .before .before .before .rule-of in λ s at is d m. judges-twice (a .kind) (a .f) (n .result) (n .ensures) (r .result) (r .ensures) _ (c .before .before .before .form .given .1) (a .seen) (c .before .marked .result) (c .before .marked .ensures) (c .if1 .taken) s is m
-
-mark-requires : tie.Need-mark-requires
-mark-requires c κs = let a = c .before .before .before .before .before .before .before .args in let n = c .before .before .before .before .before .before .number-of in let r = c .before .before .before .before .before .rule-of in (single-below (a .kind) (n .result) (r .ensures) (c .before .before .before .form .given .1), c .before .before .before .before .before .before .before .pre)
-
 take-value-requires : tie.Need-take-value-requires
 take-value-requires c κs = search needs
 
-enum-known-form-2 : tie.Need-enum-known-form-2
-enum-known-form-2 c = search needs
-
-take-value-requires-2 : tie.Need-take-value-requires-2
-take-value-requires-2 c κs = search needs
+returns : tie.Need-returns
+returns c =
+    let t = c .before in
+    let b = t .before .before in
+    let r = b .before in
+    let n = r .before in
+    let a = n .before .args in
+    λ s at is d m. judges-not (a .kind) (a .f) (n .number-of .result) (n .number-of .ensures) (r .rule-of .result) (r .rule-of .ensures) (a .seen) (b .by-rule .ensures)
+    (c .unlisted .result) (t .enum-told .given .1) (c .unlisted .ensures) s is
 
 returns-2 : tie.Need-returns-2
-returns-2 c = let a = c .before .before .before .before .before .args in let n = c .before .before .before .before .number-of in let r = c .before .before .before .rule-of in λ s at is d m. judges-unlisted (a .kind) (a .f) (n .result) (n .ensures) (r .result) (r .ensures) (c .unlisted .result) (c .before .enum-told .given .1) (c .unlisted .ensures) s is
+returns-2 c =
+    let b = c .before .before in
+    let r = b .before in
+    let n = r .before in
+    let a = n .before .args in
+    λ s at is d m. judges-never (a .kind) (a .f) (n .number-of .result) (n .number-of .ensures) (r .rule-of .result) (r .rule-of .ensures) (a .seen) (b .by-rule .ensures)
+    (c .enum-told2 .given .1) s is m
 
 returns-3 : tie.Need-returns-3
-returns-3 c = let a = c .before .before .before .before .args in let n = c .before .before .before .number-of in let r = c .before .before .rule-of in λ s at is d m. judges-refused (a .kind) (a .f) (n .result) (n .ensures) (r .result) (r .ensures) (c .enum-told2 .given .1) s is
-
-returns-4 : tie.Need-returns-4
-returns-4 c = let a = c .before .before .before .before .before .before .before .before .before .args in let n = c .before .before .before .before .before .before .before .before .number-of in let r = c .before .before .before .before .before .before .before .rule-of in let t = c .take-value in let u = c .before .before .before .marked in λ s at is d m. judges-single (a .kind) (a .f) (n .result) (n .ensures) (r .result) (r .ensures) _ (c .before .before .before .before .before .form .given .1) (a .seen) (c .before .mark .result) (u .result) (t .result) (u .ensures) (c .before .before .if1 .left) (c .before .mark .ensures) (t .ensures .0) (t .ensures .1) s at is d m
-
-returns-5 : tie.Need-returns-5
-returns-5 c = let a = c .before .before .before .before .before .before .args in let n = c .before .before .before .before .before .number-of in let r = c .before .before .before .before .rule-of in let t = c .take-value2 in λ s at is d m. judges-repeated (a .kind) (a .f) (n .result) (n .ensures) (r .result) (r .ensures) _ (c .before .before .form2 .given .1) (a .seen) (t .result) (t .ensures .0) (t .ensures .1) s at is d m
+returns-3 c =
+    let x = c .before .before in
+    let b = x .before .before in
+    let r = b .before in
+    let n = r .before in
+    let a = n .before .args in
+    λ s at is d m. judges-as (a .kind) (a .f) (n .number-of .result) (n .number-of .ensures) (r .rule-of .result) (r .rule-of .ensures) (a .seen) (b .by-rule .ensures)
+    (x .form .given .0 .0) (x .form .given .0 .1 .0) (c .take-value .result) (x .form .given .1) (c .take-value .ensures .0) (c .take-value .ensures .1) s at is d m
 
 pub judge-spec : {M : Type 1} → statement M
 judge-spec =
@@ -57,17 +62,12 @@ judge-spec =
     (tie.spec
     number-of-requires
     rule-of-requires
+    by-rule-requires
     enum-told
     unlisted-requires
     enum-told-2
     enum-known-form
-    marked-requires
-    returns
-    mark-requires
     take-value-requires
-    enum-known-form-2
-    take-value-requires-2
+    returns
     returns-2
-    returns-3
-    returns-4
-    returns-5)
+    returns-3)

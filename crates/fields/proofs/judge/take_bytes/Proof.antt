@@ -21,6 +21,9 @@ enum-told-5 c = search needs
 enum-told-6 : tie.Need-enum-told-6
 enum-told-6 c = search needs
 
+enum-told-7 : tie.Need-enum-told-7
+enum-told-7 c = search needs
+
 enum-known-f : tie.Need-enum-known-f
 enum-known-f c = search needs
 
@@ -43,7 +46,10 @@ returns-6 : tie.Need-returns-6
 returns-6 c = (λ s. rw (c .enum-told6 .given .1), λ s h l. omega arith)
 
 returns-7 : tie.Need-returns-7
-returns-7 c = (λ s. rw (c .before .f .given .1), λ s h l. (h, l))
+returns-7 c = (λ s. rw (c .enum-told7 .given .1), λ s h l. tt)
+
+returns-8 : tie.Need-returns-8
+returns-8 c = (λ s. rw (c .before .f .given .1), λ s h l. (h, l))
 
 pub take-bytes-spec : {M : Type 1} → statement M
 take-bytes-spec =
@@ -55,6 +61,7 @@ take-bytes-spec =
     enum-told-4
     enum-told-5
     enum-told-6
+    enum-told-7
     enum-known-f
     returns
     returns-2
@@ -62,4 +69,5 @@ take-bytes-spec =
     returns-4
     returns-5
     returns-6
-    returns-7)
+    returns-7
+    returns-8)

@@ -40,6 +40,9 @@ enum-told-5 c = search needs
 enum-told-6 : tie.Need-enum-told-6
 enum-told-6 c = search needs
 
+enum-told-7 : tie.Need-enum-told-7
+enum-told-7 c = search needs
+
 returns-5 : tie.Need-returns-5
 returns-5 c = λ s. (rw (c .enum-told .given .1), tt)
 
@@ -61,6 +64,9 @@ returns-10 c = λ s. (rw (c .enum-told5 .given .1), tt)
 returns-11 : tie.Need-returns-11
 returns-11 c = λ s. (rw (c .enum-told6 .given .1), tt)
 
+returns-12 : tie.Need-returns-12
+returns-12 c = λ s. (rw (c .enum-told7 .given .1), tt)
+
 pub take-int-spec : {M : Type 1} → statement M
 take-int-spec =
     tie.close
@@ -77,10 +83,12 @@ take-int-spec =
     enum-told-4
     enum-told-5
     enum-told-6
+    enum-told-7
     returns-5
     returns-6
     returns-7
     returns-8
     returns-9
     returns-10
-    returns-11)
+    returns-11
+    returns-12)

@@ -47,6 +47,10 @@ opens-enum-told-2 :
     (t : ℕ) → opens-lts.Need-enum-told-2 (reads-below t, reads′.Post) (opens-at t) opens.Post
 opens-enum-told-2 t c = search needs
 
+opens-enum-told-3 :
+    (t : ℕ) → opens-lts.Need-enum-told-3 (reads-below t, reads′.Post) (opens-at t) opens.Post
+opens-enum-told-3 t c = search needs
+
 opens-enum-known-what :
     (t : ℕ) → opens-lts.Need-enum-known-what (reads-below t, reads′.Post) (opens-at t) opens.Post
 opens-enum-known-what t c = search needs
@@ -71,9 +75,9 @@ opens-reads-requires :
     (t : ℕ) → opens-lts.Need-reads-requires (reads-below t, reads′.Post) (opens-at t) opens.Post
 opens-reads-requires t c κs = let a = c .before .before .before .before .before .args in let v = c .before .before .what .given in let h = shorter (now (a .s)) (a .what) (v .0 .0) (v .0 .1 .0) (v .0 .1 .1 .0) (v .1) (c .before .before .before .before .before .pre .1) in (omega arith, tt)
 
-opens-enum-told-3 :
-    (t : ℕ) → opens-lts.Need-enum-told-3 (reads-below t, reads′.Post) (opens-at t) opens.Post
-opens-enum-told-3 t c = search needs
+opens-enum-told-4 :
+    (t : ℕ) → opens-lts.Need-enum-told-4 (reads-below t, reads′.Post) (opens-at t) opens.Post
+opens-enum-told-4 t c = search needs
 
 opens-returns :
     (t : ℕ) → opens-lts.Need-returns (reads-below t, reads′.Post) (opens-at t) opens.Post
@@ -85,11 +89,15 @@ opens-returns-2 t c = ap (opensTaken (now (c .before .before .before .args .s)))
 
 opens-returns-3 :
     (t : ℕ) → opens-lts.Need-returns-3 (reads-below t, reads′.Post) (opens-at t) opens.Post
-opens-returns-3 t c = let a = c .before .before .before .before .before .before .args in let v = c .before .before .before .what .given in opened (now (a .s)) (a .what) (v .0 .0) (v .0 .1 .0) (v .0 .1 .1 .0) (v .1) (c .before .before .before .before .before .before .pre .1) (c .reads .ensures)
+opens-returns-3 t c = ap (opensTaken (now (c .before .before .before .args .s))) (sym (c .enum-told3 .given .1))
 
 opens-returns-4 :
     (t : ℕ) → opens-lts.Need-returns-4 (reads-below t, reads′.Post) (opens-at t) opens.Post
-opens-returns-4 t c = ap (opensTaken (now (c .before .before .before .args .s))) (sym (c .enum-told3 .given .1))
+opens-returns-4 t c = let a = c .before .before .before .before .before .before .args in let v = c .before .before .before .what .given in opened (now (a .s)) (a .what) (v .0 .0) (v .0 .1 .0) (v .0 .1 .1 .0) (v .1) (c .before .before .before .before .before .before .pre .1) (c .reads .ensures)
+
+opens-returns-5 :
+    (t : ℕ) → opens-lts.Need-returns-5 (reads-below t, reads′.Post) (opens-at t) opens.Post
+opens-returns-5 t c = ap (opensTaken (now (c .before .before .before .args .s))) (sym (c .enum-told4 .given .1))
 
 abbrev reads-Inv-loop : reads-lts.InvT-loop
 reads-Inv-loop s kind seen₀ at₀ seen at = Reading kind s seen at
@@ -300,17 +308,19 @@ pub +opens+reads-spec : {M : Type 1} → statement M
     opens.Post
     (opens-enum-told t)
     (opens-enum-told-2 t)
+    (opens-enum-told-3 t)
     (opens-enum-known-what t)
     (opens-add-end t)
     (opens-sub-reads t)
     (opens-part-reads-start t)
     (opens-part-reads-end t)
     (opens-reads-requires t)
-    (opens-enum-told-3 t)
+    (opens-enum-told-4 t)
     (opens-returns t)
     (opens-returns-2 t)
     (opens-returns-3 t)
-    (opens-returns-4 t))
+    (opens-returns-4 t)
+    (opens-returns-5 t))
     λ t. reads-lts.spec (
       read-field-reads.Asked,
       read-field-reads.Learnt,

@@ -13,6 +13,9 @@ enum-known-w-2 c = search needs
 enum-known-w-3 : tie.Need-enum-known-w-3
 enum-known-w-3 c = search needs
 
+enum-known-w-4 : tie.Need-enum-known-w-4
+enum-known-w-4 c = search needs
+
 enum-told : tie.Need-enum-told
 enum-told c = search needs
 
@@ -26,7 +29,10 @@ returns-3 : tie.Need-returns-3
 returns-3 c = ap placeOf (sym (c .before .w3 .given .1))
 
 returns-4 : tie.Need-returns-4
-returns-4 c = ap placeOf (sym (c .enum-told .given .1))
+returns-4 c = ap placeOf (sym (c .before .w4 .given .1))
+
+returns-5 : tie.Need-returns-5
+returns-5 c = ap placeOf (sym (c .enum-told .given .1))
 
 pub place-of-spec : {M : Type 1} → statement M
 place-of-spec =
@@ -35,8 +41,10 @@ place-of-spec =
     enum-known-w
     enum-known-w-2
     enum-known-w-3
+    enum-known-w-4
     enum-told
     returns
     returns-2
     returns-3
-    returns-4)
+    returns-4
+    returns-5)

@@ -1,0 +1,122 @@
+// A log in the body of a reply, document 02, CR 1: each part that is asked for, written in front of what stands behind it.
+ghost use mathlib.Core.Path.{_≡_};
+ghost use mathlib.Core.Bool.{true};
+ghost use mathlib.Core.List.{[]};
+ghost use Prim.Native.Nat.{_+_, _≤_};
+ghost use lib.ListN.{length};
+ghost use Rattle.wire.specs.Reader.{choose};
+ghost use Rattle.tree.specs.Tree.{mapO, guard, done};
+ghost use Rattle.encoding.specs.Encode.{lenField, encode, subO, eachSub};
+ghost use Rattle.writers.specs.Pushed.{Pushed};
+ghost use Rattle.store.specs.Store.{Good};
+ghost use Rattle.readings.specs.Lent.{temperatures, utilizations, temperatureSample, utilizationSample, readingsGood};
+ghost use Rattle.protocol.specs.State.{State};
+ghost use Rattle.protocol.specs.Command.{mapL};
+ghost use Rattle.protocol.specs.Judge.{log, logWith};
+ghost use Rattle.protocol.specs.Reply.{sampleTree, capacityTree, limitsTree};
+ghost use Rattle.reply_parts.specs.Parts.{bodyBytes};
+ghost use Rattle.log_parts.specs.LogLaws.{sizes, capacityIn};
+
+// The most bytes of a key, a value, a version and a tag.
+fn push_sizes(out: &mut [u8], at: usize) -> usize
+    requires { ⌜ (60 ≤ at) × (at ≤ length (now out)) ⌝ }
+    ensures { λ r. ⌜ Pushed r at (encode sizes) (now (out .entry)) (now (out .exit)) × (at ≤ r + 60) ⌝ }
+{
+    let a = field_writers::push_int(out, at, 4, 32);
+    let b = field_writers::push_int(out, a, 3, 16);
+    let c = field_writers::push_int(out, b, 2, 384);
+    field_writers::push_int(out, c, 1, 64)
+}
+
+// Field 8: those, and the most of a message, a range's keys and the identities.
+fn push_limits(out: &mut [u8], at: usize) -> usize
+    requires { ⌜ (120 ≤ at) × (at ≤ length (now out)) ⌝ }
+    ensures { λ r. ⌜ Pushed r at (lenField 8 (encode limitsTree)) (now (out .entry)) (now (out .exit)) × (at ≤ r + 120) ⌝ }
+{
+    let a = field_writers::push_int(out, at, 10, 8);
+    let b = field_writers::push_int(out, a, 9, 32);
+    let c = field_writers::push_int(out, b, 8, 8192);
+    let d = push_sizes(out, c);
+    field_writers::push_head(out, d, 8, at - d)
+}
+
+// Field 4: 512 bytes a block, and the used part of the blocks.
+fn push_capacity(out: &mut [u8], at: usize, store: &[u8]) -> usize
+    requires { ⌜ Good (now store) × (39 ≤ at) × (at ≤ length (now out)) ⌝ }
+    ensures { λ r. ⌜ Pushed r at (lenField 4 (encode (capacityTree (capacityIn (now (store .entry)))))) (now (out .entry)) (now (out .exit)) × (at ≤ r + 39) ⌝ }
+{
+    let all = store.len() / 512;
+    let used = store::count(store);
+    let full = binary32::portion_full(used, all);
+    let a = field_writers::push_float(out, at, 5, full);
+    let b = field_writers::push_int(out, a, 4, 512 * (all as u64));
+    field_writers::push_head(out, b, 4, at - b)
+}
+
+// The limits, if they are asked for.
+fn push_asked_limits(out: &mut [u8], at: usize, asked: bool) -> usize
+    requires { ⌜ (120 ≤ at) × (at ≤ length (now out)) ⌝ }
+    ensures { λ r. ⌜ Pushed r at (encode (subO 8 (guard asked limitsTree) done)) (now (out .entry)) (now (out .exit)) × (at ≤ r + 120) ⌝ }
+{
+    if asked {
+        return push_limits(out, at);
+    }
+    at
+}
+
+// The capacity, if it is asked for.
+fn push_asked_capacity(out: &mut [u8], at: usize, store: &[u8], asked: bool) -> usize
+    requires { ⌜ Good (now store) × (39 ≤ at) × (at ≤ length (now out)) ⌝ }
+    ensures { λ r. ⌜ Pushed r at (encode (subO 4 (mapO capacityTree (guard asked (capacityIn (now (store .entry))))) done)) (now (out .entry)) (now (out .exit)) × (at ≤ r + 39) ⌝ }
+{
+    if asked {
+        return push_capacity(out, at, store);
+    }
+    at
+}
+
+// The temperatures, if they are asked for.
+fn push_temperatures(out: &mut [u8], at: usize, readings: &[u8], asked: bool) -> usize
+    requires { ⌜ (readingsGood (now readings) ≡ true) × (220 ≤ at) × (at ≤ length (now out)) ⌝ }
+    ensures { λ r. ⌜ Pushed r at (encode (eachSub 3 (mapL sampleTree (choose asked (mapL temperatureSample (temperatures (now (readings .entry)))) [])) done)) (now (out .entry)) (now (out .exit)) × (at ≤ r + 220) ⌝ }
+{
+    if asked {
+        let n = readings::temperatures(readings);
+        return log_samples::push_samples(out, at, 3, readings, 0, n, true);
+    }
+    at
+}
+
+// The utilizations, if they are asked for.
+fn push_utilizations(out: &mut [u8], at: usize, readings: &[u8], asked: bool) -> usize
+    requires { ⌜ (readingsGood (now readings) ≡ true) × (220 ≤ at) × (at ≤ length (now out)) ⌝ }
+    ensures { λ r. ⌜ Pushed r at (encode (eachSub 2 (mapL sampleTree (choose asked (mapL utilizationSample (utilizations (now (readings .entry)))) [])) done)) (now (out .entry)) (now (out .exit)) × (at ≤ r + 220) ⌝ }
+{
+    if asked {
+        let n = readings::utilizations(readings);
+        return log_samples::push_samples(out, at, 2, readings, 4, n, false);
+    }
+    at
+}
+
+// A body with a log of the parts that are asked for, which is there even when empty.
+pub fn push_log(
+    out: &mut [u8],
+    at: usize,
+    store: &[u8],
+    readings: &[u8],
+    utilized: bool,
+    heated: bool,
+    filled: bool,
+    limited: bool,
+) -> usize
+    requires { ⌜ Good (now store) × (readingsGood (now readings) ≡ true) × (629 ≤ at) × (at ≤ length (now out)) ⌝ }
+    ensures { λ r. ⌜ ((s : State) → s .store ≡ now (store .entry) → s .readings ≡ now (readings .entry) → Pushed r at (bodyBytes (log (logWith s utilized heated filled limited))) (now (out .entry)) (now (out .exit))) × (r ≤ at) × (at ≤ r + 629) ⌝ }
+{
+    let a = push_asked_limits(out, at, limited);
+    let b = push_asked_capacity(out, a, store, filled);
+    let c = push_temperatures(out, b, readings, heated);
+    let d = push_utilizations(out, c, readings, utilized);
+    let e = field_writers::push_head(out, d, 6, at - d);
+    field_writers::push_head(out, e, 2, at - e)
+}

@@ -1,0 +1,100 @@
+-- The walk over the types of a GetLog.
+use Prim.Native.Nat.{ℕ, _≤_, _<_}
+use native.Mathlib.Omega.{arith}
+use mathlib.Core.Path.{_≡_, refl, sym, ap, _∙_, subst}
+use mathlib.Core.List.{List, [], _∷_, _++_, append-assoc, append-nil}
+use mathlib.Core.Bool.{Bool, true, false}
+use lib.ListN.{take, drop}
+use lib.Dec.{eqb}
+use borrow.Author.Tests.{eqb-true}
+use Rattle.wire.specs.Reader.{choose}
+use Rattle.tree.specs.Rules.{namesOf}
+use Rattle.tree.specs.Tree.{among, consIf}
+use Rattle.tree.specs.declared.Kind.the-variants as kind
+use Rattle.tree.specs.declared.Names.the-variants.{LogType}
+use Rattle.access.specs.Table.{withBit, maskOf}
+use Rattle.access.specs.Mask.{mask-more}
+use Rattle.lookups.specs.Views.{Inside, bytesAt}
+use Rattle.lookups.specs.Values.{numbersIn, numbersOf, WellFramed, NextNumIs}
+use Rattle.lookups.specs.RepeatedLaws.{AllAmong, repeated-named, repeated-among, reads-framed}
+use Rattle.lookups.specs.declared.parts.Part.{Part}
+use Rattle.lookups.specs.declared.repeated.NextNum.{NextNum}
+use Rattle.lookups.proofs.Seeking.{no-values}
+use Rattle.log_types.specs.Types.{StandsLog, typesIn, TypesAre}
+
+-- the types so far, and those to come
+pub record Walk (s : List ℕ) (p left : Part) (mask : ℕ) : Type 0 where
+  pub inside : Inside s left
+  pub framed : WellFramed (bytesAt s left)
+  pub named : AllAmong (namesOf LogType) (numbersIn 1 (bytesAt s left))
+  pub past : List ℕ
+  pub split : typesIn s p ≡ past ++ numbersIn 1 (bytesAt s left)
+  pub set : mask ≡ maskOf past
+
+pub walk-start : (s : List ℕ) (p : Part) → StandsLog s p → Walk s p p 0
+unfolding maskOf
+walk-start s p y =
+    let m = bytesAt s p in
+    record {
+      inside = y .inside;
+      framed = reads-framed kind.GetLog m (y .reads);
+      named = repeated-among kind.GetLog m (y .reads) 1 LogType refl;
+      past = [];
+      split = repeated-named kind.GetLog m (y .reads) 1 LogType refl;
+      set = refl;
+    }
+
+empty-part : (s : List ℕ) (left : Part) → left .len ≤ 0 → bytesAt s left ≡ []
+unfolding bytesAt
+empty-part s left h = let z : left .len ≡ 0 = omega arith in ap (λ (n : ℕ). take n (drop (left .start) s)) z
+
+-- the named types are below 8
+abbrev Below : List ℕ → Type 0
+Below [] = Unit {0}
+Below (m ∷ ms) = (m < 8) × Below ms
+
+among-below : (v : ℕ) (ms : List ℕ) → Below ms → among v ms ≡ true → v < 8
+among-below v [] h e = let z : _≡_ {A = ℕ} 0 1 = cc in absurd (omega arith)
+among-below v (m ∷ ms) h e = go (eqb v m) refl (among-below v ms (h .1)) e
+  where
+    go : (b : Bool) → eqb v m ≡ b → (among v ms ≡ true → v < 8) → choose b true (among v ms) ≡ true → v < 8
+    go true q ih f = omega (arith, h .0, eqb-true v m q)
+    go false q ih f = ih f
+
+below : (v : ℕ) → among v (namesOf LogType) ≡ true → v < 8
+below v e =
+    among-below v (namesOf LogType) (omega arith, (omega arith, (omega arith, (omega arith, (omega arith, (omega arith, (omega arith, (omega arith, tt)))))))) e
+
+module _ {s : List ℕ} {p left : Part} {mask : ℕ} (w : Walk s p left mask) where
+  ends : numbersIn 1 (bytesAt s left) ≡ [] → TypesAre (typesIn s p) mask
+  ends e = record { set = w .set ∙ ap maskOf (sym (w .split ∙ ap (λ (l : List ℕ). w .past ++ l) e ∙ append-nil (w .past))) }
+
+  pub walk-empty : left .len ≤ 0 → TypesAre (typesIn s p) mask
+  walk-empty h = ends (ap (λ (b : List ℕ). numbersIn 1 b) (empty-part s left h) ∙ ap numbersOf (no-values 1))
+
+  module _ (x : NextNum) (h : NextNumIs s left 1 x) where
+    next : (b : Bool) → x .num .has ≡ b → numbersIn 1 (bytesAt s left) ≡ consIf b (x .num .value) (numbersIn 1 (bytesAt s (x .rest)))
+    next b e = h .first (w .framed) ∙ ap (λ (b : Bool). consIf b (x .num .value) (numbersIn 1 (bytesAt s (x .rest)))) e
+
+    pub walk-end : x .num .has ≡ false → TypesAre (typesIn s p) mask
+    walk-end e = ends (next false e ∙ h .last e)
+
+    module _ (e : x .num .has ≡ true) where
+      all-named : AllAmong (namesOf LogType) (x .num .value ∷ numbersIn 1 (bytesAt s (x .rest)))
+      all-named = subst (λ (l : List ℕ). AllAmong (namesOf LogType) l) (next true e) (w .named)
+
+      pub walk-small : x .num .value < 8
+      walk-small = below (x .num .value) (all-named .0)
+
+      pub walk-on : (m : ℕ) → m ≡ withBit mask (x .num .value) → Walk s p (x .rest) m
+      walk-on m q =
+          let v = x .num .value in
+          let rest = numbersIn 1 (bytesAt s (x .rest)) in
+          record {
+            inside = h .inside;
+            framed = h .framed (w .framed);
+            named = all-named .1;
+            past = w .past ++ (v ∷ []);
+            split = w .split ∙ ap (λ (l : List ℕ). w .past ++ l) (next true e) ∙ sym (append-assoc (w .past) (v ∷ []) rest);
+            set = q ∙ ap (λ (k : ℕ). withBit k v) (w .set) ∙ mask-more (w .past) v;
+          }
