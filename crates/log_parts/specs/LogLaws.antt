@@ -1,9 +1,9 @@
 -- The parts of a log in the runs that a writer makes of them, from its end to its front.
-use Prim.Native.Nat.{ℕ, _*_, _-_}
-use mathlib.Core.Path.{_≡_, refl, sym, ap, ap₂, _∙_}
+use Prim.Native.Nat.{ℕ, _-_}
+use mathlib.Core.Path.{_≡_, refl, sym, ap}
 use mathlib.Core.Bool.{Bool, true, false}
 use mathlib.Core.List.{List, [], _++_}
-use lib.ListN.{length}
+use lib.ListN.{getD}
 use Rattle.wire.specs.Reader.{choose}
 use Rattle.wire.specs.Varint.{varintUp}
 use Rattle.tree.specs.Tree.{mapO, guard, Tree, done, int, fix}
@@ -11,32 +11,11 @@ use Rattle.encoding.specs.Encode.{intField, head, lenField, floatBytes, fixFiel
 use Rattle.writers.specs.Pushed.{Pushed}
 use Rattle.writers.specs.PushedLaws.{_onto_, again, pushed-sub}
 use Rattle.writers.specs.TreeParts.{int-last, fix-last, sub-last, int-pushed, subO-pushed, eachSub-pushed, sub-none, sub-some}
-use Rattle.store.specs.Store.{blocksIn, entriesOf}
-use Rattle.binary32.specs.Binary32.{portion}
-use Rattle.readings.specs.Lent.{Sample, temperatures, utilizations, temperatureSample, utilizationSample}
-use Rattle.protocol.specs.State.{State}
+use Rattle.readings.specs.Lent.{Sample, placesFrom, sampleOf}
 use Rattle.protocol.specs.Command.{mapL}
-use Rattle.protocol.specs.Judge.{Capacity, Log, log, logWith}
+use Rattle.protocol.specs.Judge.{Capacity, log, capacityOf, logWith}
 use Rattle.protocol.specs.Reply.{sampleTree, capacityTree, limitsTree, logTree}
 use Rattle.reply_parts.specs.Parts.{bodyBytes}
-
--- the capacity of a store
-abbrev pub capacityIn : List ℕ → Capacity
-capacityIn l = record { nominal = 512 * blocksIn l; portion = portion (length (entriesOf l)) (blocksIn l) }
-
--- the log of a store and readings
-abbrev logIn : List ℕ → List ℕ → Bool → Bool → Bool → Bool → Log
-logIn store readings utilized heated filled limited =
-    record {
-      utilizations = choose utilized (mapL utilizationSample (utilizations readings)) [];
-      temperatures = choose heated (mapL temperatureSample (temperatures readings)) [];
-      capacity = guard filled (capacityIn store);
-      limits = limited;
-    }
-
-log-is : (s : State) (u h f g : Bool) → logIn (s .store) (s .readings) u h f g ≡ logWith s u h f g
-unfolding logWith
-log-is s u h f g = refl
 
 -- the first four of the limits
 abbrev pub sizes : Tree
@@ -76,29 +55,33 @@ capacity-asked b c e = sub-some 4 (capacityTree c) (mapO capacityTree (guard b c
 pub capacity-left : (b : Bool) (c : Capacity) → b ≡ false → [] ≡ encode (subO 4 (mapO capacityTree (guard b c)) done)
 capacity-left b c e = sub-none 4 (mapO capacityTree (guard b c)) (ap (λ (b : Bool). mapO capacityTree (guard b c)) e)
 
-pub samples-asked : (n : ℕ) (b : Bool) (xs ys : List Sample) → b ≡ true → xs ≡ ys
-    → encode (eachSub n (mapL sampleTree xs) done) ≡ encode (eachSub n (mapL sampleTree (choose b ys [])) done)
-samples-asked n b xs ys e f =
-    ap (λ (zs : List Sample). encode (eachSub n (mapL sampleTree zs) done)) f ∙ ap (λ (b : Bool). encode (eachSub n (mapL sampleTree (choose b ys [])) done)) (sym e)
+pub samples-asked : (n : ℕ) (b : Bool) (xs : List Sample) → b ≡ true
+    → encode (eachSub n (mapL sampleTree xs) done) ≡ encode (eachSub n (mapL sampleTree (choose b xs [])) done)
+samples-asked n b xs e = ap (λ (b : Bool). encode (eachSub n (mapL sampleTree (choose b xs [])) done)) (sym e)
 
-pub samples-left : (n : ℕ) (b : Bool) (ys : List Sample) → b ≡ false → [] ≡ encode (eachSub n (mapL sampleTree (choose b ys [])) done)
+pub samples-left : (n : ℕ) (b : Bool) (xs : List Sample) → b ≡ false → [] ≡ encode (eachSub n (mapL sampleTree (choose b xs [])) done)
 unfolding encode eachSub mapL
-samples-left n b ys e = ap (λ (b : Bool). encode (eachSub n (mapL sampleTree (choose b ys [])) done)) (sym e)
+samples-left n b xs e = ap (λ (b : Bool). encode (eachSub n (mapL sampleTree (choose b xs [])) done)) (sym e)
+
+-- readings of either kind, if they are asked for: n places from the first on
+abbrev pub samplesIf : Bool → Bool → List ℕ → ℕ → ℕ → List Tree
+samplesIf asked temperature l first n = mapL sampleTree (choose asked (mapL (sampleOf temperature) (placesFrom l first n)) [])
 
 -- a body with a log
-pub log-law : {r e d c b a at : ℕ} {l m1 m2 m3 m4 m5 n : List ℕ} (s : State) (store readings : List ℕ) (utilized heated filled limited : Bool)
-    → s .store ≡ store → s .readings ≡ readings → Pushed r e (head 2 (at - e)) m5 n → Pushed e d (head 6 (at - d)) m4 m5
-    → Pushed d c (encode (eachSub 2 (mapL sampleTree (choose utilized (mapL utilizationSample (utilizations readings)) [])) done)) m3 m4
-    → Pushed c b (encode (eachSub 3 (mapL sampleTree (choose heated (mapL temperatureSample (temperatures readings)) [])) done)) m2 m3
-    → Pushed b a (encode (subO 4 (mapO capacityTree (guard filled (capacityIn store))) done)) m1 m2
-    → Pushed a at (encode (subO 8 (guard limited limitsTree) done)) l m1 → Pushed r at (bodyBytes (log (logWith s utilized heated filled limited))) l n
-log-law s store readings u h f g x y p q w4 w3 w2 w1 =
-    let k : logIn store readings u h f g ≡ logWith s u h f g = ap₂ (λ t r. logIn t r u h f g) (sym x) (sym y) ∙ log-is s u h f g in
+pub log-law : {r e d c b a at u t : ℕ} {l m1 m2 m3 m4 m5 n : List ℕ} (store readings : List ℕ) (utilized heated filled limited : Bool)
+    → u ≡ getD readings 1 0 → t ≡ getD readings 0 0 → Pushed r e (head 2 (at - e)) m5 n → Pushed e d (head 6 (at - d)) m4 m5
+    → Pushed d c (encode (eachSub 2 (samplesIf utilized false readings 4 u) done)) m3 m4
+    → Pushed c b (encode (eachSub 3 (samplesIf heated true readings 0 t) done)) m2 m3
+    → Pushed b a (encode (subO 4 (mapO capacityTree (guard filled (capacityOf store))) done)) m1 m2
+    → Pushed a at (encode (subO 8 (guard limited limitsTree) done)) l m1 → Pushed r at (bodyBytes (log (logWith store readings utilized heated filled limited))) l n
+unfolding logWith
+log-law store readings u h f g x y p q w4 w3 w2 w1 =
+    let us = samplesIf u false readings 4 (getD readings 1 0) in
+    let ts = samplesIf h true readings 0 (getD readings 0 0) in
     let fourth = subO 8 (guard g limitsTree) done in
-    let third = subO 4 (mapO capacityTree (guard f (capacityIn store))) fourth in
-    let second = eachSub 3 (mapL sampleTree (choose h (mapL temperatureSample (temperatures readings)) [])) third in
-    again (ap (λ (o : Log). bodyBytes (log o)) k)
-    (pushed-sub 2 p (sub-last 6 (logTree (logIn store readings u h f g)) q
-    (eachSub-pushed 2 (mapL sampleTree (choose u (mapL utilizationSample (utilizations readings)) [])) second w4
-    (eachSub-pushed 3 (mapL sampleTree (choose h (mapL temperatureSample (temperatures readings)) [])) third w3
-    (subO-pushed 4 (mapO capacityTree (guard f (capacityIn store))) fourth w2 w1)))))
+    let third = subO 4 (mapO capacityTree (guard f (capacityOf store))) fourth in
+    let second = eachSub 3 ts third in
+    pushed-sub 2 p (sub-last 6 (logTree (logWith store readings u h f g)) q
+    (eachSub-pushed 2 us second (again (ap (λ k. encode (eachSub 2 (samplesIf u false readings 4 k) done)) x) w4)
+    (eachSub-pushed 3 ts third (again (ap (λ k. encode (eachSub 3 (samplesIf h true readings 0 k) done)) y) w3)
+    (subO-pushed 4 (mapO capacityTree (guard f (capacityOf store))) fourth w2 w1))))

@@ -1,21 +1,18 @@
 // A log in the body of a reply, document 02, CR 1: each part that is asked for, written in front of what stands behind it.
 ghost use mathlib.Core.Path.{_≡_};
 ghost use mathlib.Core.Bool.{true};
-ghost use mathlib.Core.List.{[]};
-ghost use Prim.Native.Nat.{_+_, _≤_};
+ghost use Prim.Native.Nat.{_+_, _^_, _<_, _≤_};
 ghost use lib.ListN.{length};
-ghost use Rattle.wire.specs.Reader.{choose};
 ghost use Rattle.tree.specs.Tree.{mapO, guard, done};
 ghost use Rattle.encoding.specs.Encode.{lenField, encode, subO, eachSub};
 ghost use Rattle.writers.specs.Pushed.{Pushed};
 ghost use Rattle.store.specs.Store.{Good};
-ghost use Rattle.readings.specs.Lent.{temperatures, utilizations, temperatureSample, utilizationSample, readingsGood};
-ghost use Rattle.protocol.specs.State.{State};
-ghost use Rattle.protocol.specs.Command.{mapL};
-ghost use Rattle.protocol.specs.Judge.{log, logWith};
-ghost use Rattle.protocol.specs.Reply.{sampleTree, capacityTree, limitsTree};
+ghost use Rattle.readings.specs.Lent.{readingsGood};
+ghost use Rattle.readings.specs.LentLaws.{Places};
+ghost use Rattle.protocol.specs.Judge.{log, capacityOf, logWith};
+ghost use Rattle.protocol.specs.Reply.{capacityTree, limitsTree};
 ghost use Rattle.reply_parts.specs.Parts.{bodyBytes};
-ghost use Rattle.log_parts.specs.LogLaws.{sizes, capacityIn};
+ghost use Rattle.log_parts.specs.LogLaws.{sizes, samplesIf};
 
 // The most bytes of a key, a value, a version and a tag.
 fn push_sizes(out: &mut [u8], at: usize) -> usize
@@ -43,7 +40,7 @@ fn push_limits(out: &mut [u8], at: usize) -> usize
 // Field 4: 512 bytes a block, and the used part of the blocks.
 fn push_capacity(out: &mut [u8], at: usize, store: &[u8]) -> usize
     requires { ⌜ Good (now store) × (39 ≤ at) × (at ≤ length (now out)) ⌝ }
-    ensures { λ r. ⌜ Pushed r at (lenField 4 (encode (capacityTree (capacityIn (now (store .entry)))))) (now (out .entry)) (now (out .exit)) × (at ≤ r + 39) ⌝ }
+    ensures { λ r. ⌜ Pushed r at (lenField 4 (encode (capacityTree (capacityOf (now (store .entry)))))) (now (out .entry)) (now (out .exit)) × (at ≤ r + 39) ⌝ }
 {
     let all = store.len() / 512;
     let used = store::count(store);
@@ -67,7 +64,7 @@ fn push_asked_limits(out: &mut [u8], at: usize, asked: bool) -> usize
 // The capacity, if it is asked for.
 fn push_asked_capacity(out: &mut [u8], at: usize, store: &[u8], asked: bool) -> usize
     requires { ⌜ Good (now store) × (39 ≤ at) × (at ≤ length (now out)) ⌝ }
-    ensures { λ r. ⌜ Pushed r at (encode (subO 4 (mapO capacityTree (guard asked (capacityIn (now (store .entry))))) done)) (now (out .entry)) (now (out .exit)) × (at ≤ r + 39) ⌝ }
+    ensures { λ r. ⌜ Pushed r at (encode (subO 4 (mapO capacityTree (guard asked (capacityOf (now (store .entry))))) done)) (now (out .entry)) (now (out .exit)) × (at ≤ r + 39) ⌝ }
 {
     if asked {
         return push_capacity(out, at, store);
@@ -75,26 +72,22 @@ fn push_asked_capacity(out: &mut [u8], at: usize, store: &[u8], asked: bool) -> 
     at
 }
 
-// The temperatures, if they are asked for.
-fn push_temperatures(out: &mut [u8], at: usize, readings: &[u8], asked: bool) -> usize
-    requires { ⌜ (readingsGood (now readings) ≡ true) × (220 ≤ at) × (at ≤ length (now out)) ⌝ }
-    ensures { λ r. ⌜ Pushed r at (encode (eachSub 3 (mapL sampleTree (choose asked (mapL temperatureSample (temperatures (now (readings .entry)))) [])) done)) (now (out .entry)) (now (out .exit)) × (at ≤ r + 220) ⌝ }
+// The readings of `count` places from `first` on, each as a field `n`, if they are asked for.
+fn push_asked_samples(
+    out: &mut [u8],
+    at: usize,
+    n: u64,
+    readings: &[u8],
+    first: usize,
+    count: usize,
+    temperature: bool,
+    asked: bool,
+) -> usize
+    requires { ⌜ Places (now readings) first count × (first ≤ 6) × (n < 2 ^ 29) × (220 ≤ at) × (at ≤ length (now out)) ⌝ }
+    ensures { λ r. ⌜ Pushed r at (encode (eachSub n (samplesIf asked temperature (now (readings .entry)) first count) done)) (now (out .entry)) (now (out .exit)) × (at ≤ r + 220) ⌝ }
 {
     if asked {
-        let n = readings::temperatures(readings);
-        return log_samples::push_samples(out, at, 3, readings, 0, n, true);
-    }
-    at
-}
-
-// The utilizations, if they are asked for.
-fn push_utilizations(out: &mut [u8], at: usize, readings: &[u8], asked: bool) -> usize
-    requires { ⌜ (readingsGood (now readings) ≡ true) × (220 ≤ at) × (at ≤ length (now out)) ⌝ }
-    ensures { λ r. ⌜ Pushed r at (encode (eachSub 2 (mapL sampleTree (choose asked (mapL utilizationSample (utilizations (now (readings .entry)))) [])) done)) (now (out .entry)) (now (out .exit)) × (at ≤ r + 220) ⌝ }
-{
-    if asked {
-        let n = readings::utilizations(readings);
-        return log_samples::push_samples(out, at, 2, readings, 4, n, false);
+        return log_samples::push_samples(out, at, n, readings, first, count, temperature);
     }
     at
 }
@@ -111,12 +104,14 @@ pub fn push_log(
     limited: bool,
 ) -> usize
     requires { ⌜ Good (now store) × (readingsGood (now readings) ≡ true) × (629 ≤ at) × (at ≤ length (now out)) ⌝ }
-    ensures { λ r. ⌜ ((s : State) → s .store ≡ now (store .entry) → s .readings ≡ now (readings .entry) → Pushed r at (bodyBytes (log (logWith s utilized heated filled limited))) (now (out .entry)) (now (out .exit))) × (r ≤ at) × (at ≤ r + 629) ⌝ }
+    ensures { λ r. ⌜ Pushed r at (bodyBytes (log (logWith (now (store .entry)) (now (readings .entry)) utilized heated filled limited))) (now (out .entry)) (now (out .exit)) × (at ≤ r + 629) ⌝ }
 {
     let a = push_asked_limits(out, at, limited);
     let b = push_asked_capacity(out, a, store, filled);
-    let c = push_temperatures(out, b, readings, heated);
-    let d = push_utilizations(out, c, readings, utilized);
+    let t = readings::temperatures(readings);
+    let c = push_asked_samples(out, b, 3, readings, 0, t, true, heated);
+    let u = readings::utilizations(readings);
+    let d = push_asked_samples(out, c, 2, readings, 4, u, false, utilized);
     let e = field_writers::push_head(out, d, 6, at - d);
     field_writers::push_head(out, e, 2, at - e)
 }

@@ -7,7 +7,6 @@ ghost use lib.ListN.{length};
 ghost use Rattle.writers.specs.Pushed.{Starts, maybe};
 ghost use Rattle.store.specs.Store.{Good};
 ghost use Rattle.readings.specs.Lent.{readingsGood};
-ghost use Rattle.protocol.specs.State.{State};
 ghost use Rattle.protocol.specs.Judge.{log, logWith};
 ghost use Rattle.protocol.specs.Reply.{commandTree, signedReply};
 use writers::Maybe;
@@ -28,7 +27,7 @@ pub fn put_log(
     limited: bool,
 ) -> usize
     requires { ⌜ (4096 ≤ length (now out)) × (length (now key) ≤ 64) × Good (now store) × (readingsGood (now readings) ≡ true) ⌝ }
-    ensures { λ r. ⌜ ((s : State) → s .store ≡ now (store .entry) → s .readings ≡ now (readings .entry) → Starts r (signedReply identity (now (key .entry)) (commandTree connection (maybe ack) kind (log (logWith s utilized heated filled limited)) 1) []) (now (out .entry)) (now (out .exit))) ⌝ }
+    ensures { λ r. ⌜ Starts r (signedReply identity (now (key .entry)) (commandTree connection (maybe ack) kind (log (logWith (now (store .entry)) (now (readings .entry)) utilized heated filled limited)) 1) []) (now (out .entry)) (now (out .exit)) ⌝ }
 {
     let mut s = [0u8; 1024];
     let a = reply_parts::push_status(&mut s, 1024, 1);

@@ -24,9 +24,11 @@ module _ (t : State) (types : List ℕ) where
     sent-device e h = sent-as a by (ap by-device (sym e)) h
 
     -- the parts that are asked for
-    pub sent-parts : among 7 types ≡ false → {u h f l : Bool} → u ≡ among 0 types → h ≡ among 1 types → f ≡ among 2 types → l ≡ among 6 types
+    pub sent-parts : {store readings : List ℕ} → t .store ≡ store → t .readings ≡ readings → among 7 types ≡ false → {u h f l : Bool} → u ≡ among 0 types → h ≡ among 1 types → f ≡ among 2 types → l ≡ among 6 types
         → {o : Option ℕ} → o ≡ guard (a .sequenced) (a .sequence)
-        → Starts n (signedReply (a .identity) by (commandTree (a .connection) o (a .kind) (log (logWith t u h f l)) 1) []) out out'
+        → Starts n (signedReply (a .identity) by (commandTree (a .connection) o (a .kind) (log (logWith store readings u h f l)) 1) []) out out'
         → Sent (replied a by (logged t types)) n out out' t
-    sent-parts e {u} {h} {f} {l} p q r w o s =
-        sends-as a by ((λ i. succeeds t (log (logWith t (p i) (q i) (r i) (w i))) []) ∙ ap by-device (sym e)) o s
+    sent-parts x y e p q r w o s =
+        let store = sym x in
+        let readings = sym y in
+        sends-as a by ((λ i. succeeds t (log (logWith (store i) (readings i) (p i) (q i) (r i) (w i))) []) ∙ ap by-device (sym e)) o s

@@ -14,7 +14,7 @@ use Rattle.permission.specs.Permission.{permits, permitsAny, permitsRange}
 use Rattle.block.specs.Order.{cmp}
 use Rattle.block.specs.Block.{isLess, isEqual}
 use Rattle.block.specs.Entry.{Entry, entry, noEntry}
-use Rattle.store.specs.Store.{blocksIn}
+use Rattle.store.specs.Store.{blocksIn, entriesOf}
 use Rattle.store.specs.Entries.{findIn, nextIn, previousIn, hasRoom, putStore, deleteStore}
 use Rattle.store.specs.declared.Found.{Found}
 use Rattle.store.specs.declared.Found.the-variants.{At, Gap}
@@ -285,22 +285,22 @@ setUp s none = succeeds s bare []
 setUp s (some v) = succeeds (withDevice s (withClusterVersion (s .device) v)) bare []
 
 -- document 02, CR 1: "The capacity is 512 bytes a block. portionFull is used blocks divided by all blocks, rounded once"
-abbrev pub capacityOf : State → Capacity
-capacityOf s = record { nominal = 512 * blocksIn (s .store); portion = portion (length (entries s)) (blocksIn (s .store)) }
+abbrev pub capacityOf : List ℕ → Capacity
+capacityOf store = record { nominal = 512 * blocksIn store; portion = portion (length (entriesOf store)) (blocksIn store) }
 
--- a log with or without each of its parts; "readings in lent order"
-unfoldable pub logWith : State → Bool → Bool → Bool → Bool → Log
-logWith s utilized heated filled limited =
+-- the log of a store and readings, with or without each of its parts; "readings in lent order"
+unfoldable pub logWith : List ℕ → List ℕ → Bool → Bool → Bool → Bool → Log
+logWith store readings utilized heated filled limited =
     record {
-      utilizations = choose utilized (mapL utilizationSample (utilizations (s .readings))) [];
-      temperatures = choose heated (mapL temperatureSample (temperatures (s .readings))) [];
-      capacity = guard filled (capacityOf s);
+      utilizations = choose utilized (mapL utilizationSample (utilizations readings)) [];
+      temperatures = choose heated (mapL temperatureSample (temperatures readings)) [];
+      capacity = guard filled (capacityOf store);
       limits = limited;
     }
 
 -- "gives each asked type once": UTILIZATIONS 0, TEMPERATURES 1, CAPACITIES 2, LIMITS 6
 abbrev pub logOf : State → List ℕ → Log
-logOf s types = logWith s (among 0 types) (among 1 types) (among 2 types) (among 6 types)
+logOf s types = logWith (s .store) (s .readings) (among 0 types) (among 1 types) (among 2 types) (among 6 types)
 
 -- "else a 7 is NOT_FOUND at step 10"
 abbrev pub logged : State → List ℕ → Result

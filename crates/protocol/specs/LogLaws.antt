@@ -16,7 +16,7 @@ use Rattle.protocol.specs.Judge.{Result, isEmpty, present, typesGood, br
 -- ---- "gives each asked type once", whatever the order and number of asking
 
 abbrev given : State → Bool → Bool → Bool → Bool → Bool → Result
-given s device utilized heated filled limited = choose device (fails s 7) (succeeds s (log (logWith s utilized heated filled limited)) [])
+given s device utilized heated filled limited = choose device (fails s 7) (succeeds s (log (logWith (s .store) (s .readings) utilized heated filled limited)) [])
 
 pub asked-alike : (s : State) (ts us : List ℕ) → ((t : ℕ) → among t ts ≡ among t us) → logged s ts ≡ logged s us
 asked-alike s ts us e = λ i. given s (e 7 i) (e 0 i) (e 1 i) (e 2 i) (e 6 i)

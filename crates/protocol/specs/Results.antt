@@ -235,14 +235,13 @@ none-or : (t : Bool) (m : ℕ) (rs : List Sample) → length rs ≤ m → ShortN
 none-or true m rs h k = (h, k)
 none-or false m rs h k = (omega arith, record {})
 
-nominal-word : (s : State) (t : Bool) → blocksIn (s .store) ≤ 128 → (c : Capacity) → guard t (capacityOf s) ≡ some c → c .nominal < 2 ^ 64
-nominal-word s true h c e = let q : capacityOf s ≡ c = cc in omega (arith, ap (λ (x : Capacity). x .nominal) q)
-nominal-word s false h c e = never (cc)
+nominal-word : (store : List ℕ) (t : Bool) → blocksIn store ≤ 128 → (c : Capacity) → guard t (capacityOf store) ≡ some c → c .nominal < 2 ^ 64
+nominal-word store true h c e = let q : capacityOf store ≡ c = cc in omega (arith, ap (λ (x : Capacity). x .nominal) q)
+nominal-word store false h c e = never (cc)
 
-log-fits : (s : State) (a b c d : Bool) → readingsGood (s .readings) ≡ true → blocksIn (s .store) ≤ 128 → LogFits (logWith s a b c d)
+log-fits : (store l : List ℕ) (a b c d : Bool) → readingsGood l ≡ true → blocksIn store ≤ 128 → LogFits (logWith store l a b c d)
 unfolding logWith
-log-fits s a b c d g h =
-    let l = s .readings in
+log-fits store l a b c d g h =
     let u = utilizations-placed l g in
     let t = temperatures-placed l g in
     let us = mapL utilizationSample (utilizations l) in
@@ -256,13 +255,13 @@ log-fits s a b c d g h =
       few-temperatures = q .0;
       utilizations-named = p .1;
       temperatures-named = q .1;
-      nominal-word = λ c' e. nominal-word s c h c' e;
+      nominal-word = λ c' e. nominal-word store c h c' e;
     }
 
 log-sent : (s : State) (types : List ℕ) → readingsGood (s .readings) ≡ true → blocksIn (s .store) ≤ 128 → Sendable (logged s types)
 log-sent s types g h =
     choosing (among 7 types) (failing s _ (known-code refl))
-    (succeeding s (log (logOf s types)) [] (logs (log-fits s (among 0 types) (among 1 types) (among 2 types) (among 6 types) g h)) (omega arith))
+    (succeeding s (log (logOf s types)) [] (logs (log-fits (s .store) (s .readings) (among 0 types) (among 1 types) (among 2 types) (among 6 types) g h)) (omega arith))
 
 step10-sent : (s : State) (o : Operation) (b : Body) (v : List ℕ) → Good (s .store) → readingsGood (s .readings) ≡ true → fault o b v ≡ 0 → Sendable (step10 s o b v)
 step10-sent s Noop b v good r e = succeeding s bare [] bares (omega arith)

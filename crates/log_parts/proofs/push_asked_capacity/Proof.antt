@@ -1,7 +1,8 @@
 use native.Mathlib.Omega.{arith}
 use denote.Ref.{now}
 use Rattle.writers.specs.PushedLaws.{pushed-none, again}
-use Rattle.log_parts.specs.LogLaws.{capacityIn, capacity-asked, capacity-left}
+use Rattle.protocol.specs.Judge.{capacityOf}
+use Rattle.log_parts.specs.LogLaws.{capacity-asked, capacity-left}
 use borrow.Author.Needs.{needs}
 use Rattle.log_parts.proofs.push_asked_capacity.Statement.{statement}
 use Rattle.log_parts.proofs.push_asked_capacity.Tie as tie
@@ -16,12 +17,12 @@ returns : tie.Need-returns
 returns c =
     let a = c .before .before .before .before .before .before .before .args in
     let w = c .before .before .push-capacity .ensures in
-    (again (capacity-asked (a .asked) (capacityIn (now (a .store))) (c .before .before .before .before .if1 .taken)) (w .0), w .1)
+    (again (capacity-asked (a .asked) (capacityOf (now (a .store))) (c .before .before .before .before .if1 .taken)) (w .0), w .1)
 
 returns-2 : tie.Need-returns-2
 returns-2 c =
     let s = c .before .before .before in
-    (again (capacity-left (s .args .asked) (capacityIn (now (s .args .store))) (c .if1 .left)) (pushed-none _ _ (s .pre .2)), omega arith)
+    (again (capacity-left (s .args .asked) (capacityOf (now (s .args .store))) (c .if1 .left)) (pushed-none _ _ (s .pre .2)), omega arith)
 
 pub push-asked-capacity-spec : {M : Type 1} → statement M
 push-asked-capacity-spec =

@@ -7,7 +7,8 @@ use Rattle.encoding.specs.Encode.{floatBytes, fixField}
 use Rattle.writers.specs.PushedLaws.{again}
 use Rattle.store.specs.Store.{blocksIn, entriesOf}
 use Rattle.store.specs.StoreLaws.{room}
-use Rattle.log_parts.specs.LogLaws.{capacityIn, capacity-law}
+use Rattle.protocol.specs.Judge.{capacityOf}
+use Rattle.log_parts.specs.LogLaws.{capacity-law}
 use borrow.Author.Needs.{needs}
 use Rattle.log_parts.proofs.push_capacity.Statement.{statement}
 use Rattle.log_parts.proofs.push_capacity.Tie as tie
@@ -46,7 +47,7 @@ returns c =
     let l = now (s .args .store) in
     let e = c .before .before .before .before .before .before .before .before .before .before .before .before .portion-full .ensures ∙ ap (λ n. portion n (blocksIn l)) (c .before .before .before .before .before .before .before .before .before .before .before .before .before .count .ensures (s .pre .0)) in
     let float = c .before .before .before .before .before .before .before .before .before .before .push-float .ensures in
-    (capacity-law (capacityIn l) (c .before .before .push-head .ensures .0) (c .before .before .before .before .before .before .push-int .ensures .0) (again (ap (λ n. fixField 5 (floatBytes n)) e) (float .0)), omega arith)
+    (capacity-law (capacityOf l) (c .before .before .push-head .ensures .0) (c .before .before .before .before .before .before .push-int .ensures .0) (again (ap (λ n. fixField 5 (floatBytes n)) e) (float .0)), omega arith)
 
 pub push-capacity-spec : {M : Type 1} → statement M
 push-capacity-spec =

@@ -2,7 +2,6 @@ use native.Mathlib.Omega.{arith}
 use mathlib.Core.Path.{_≡_, refl}
 use denote.Ref.{now}
 use Rattle.writers.specs.Pushed.{maybe}
-use Rattle.protocol.specs.State.{State}
 use Rattle.protocol.specs.Judge.{log, logWith}
 use Rattle.protocol.specs.Reply.{commandTree}
 use Rattle.reply_parts.specs.Parts.{command-law}
@@ -54,10 +53,9 @@ returns : tie.Need-returns
 returns c =
     let a = c .before .before .before .before .before .before .before .before .before .before .before .before .before .before .before .before .before .before .before .before .before .before .args in
     let end = c .before .before .before .before .before .before .before .finish in
-    λ (s : State) (x : s .store ≡ now (a .store)) (y : s .readings ≡ now (a .readings)).
-    let body = log (logWith s (a .utilized) (a .heated) (a .filled) (a .limited)) in
+    let body = log (logWith (now (a .store)) (now (a .readings)) (a .utilized) (a .heated) (a .filled) (a .limited)) in
     let command = command-law (a .connection) (maybe (a .ack)) (a .kind) body 1 (c .before .before .before .before .before .before .before .before .before .before .push-header .ensures .0)
-    (c .before .before .before .before .before .before .before .before .before .before .before .before .before .push-log .ensures .0 s x y)
+    (c .before .before .before .before .before .before .before .before .before .before .before .before .before .push-log .ensures .0)
     (c .before .before .before .before .before .before .before .before .before .before .before .before .before .before .before .before .push-status .ensures .0) in
     copied (end .last .0) (end .result) 1024 (omega arith)
     (signed-whole (commandTree (a .connection) (maybe (a .ack)) (a .kind) body 1) _ (end .ensures .0) command (no-value 1024 _ refl))

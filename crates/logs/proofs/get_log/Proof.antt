@@ -71,8 +71,8 @@ returns-2 c =
     let ts = types z in
     let is = l .log-types .ensures in
     λ t p q.
-    sent-parts t ts (z .args .a) (now (z .args .by)) (sym (x .asks .ensures ts is) ∙ e .if1 .left) (a .asks2 .ensures ts is) (b .asks3 .ensures ts is)
-    (d .asks4 .ensures ts is) (f .asks5 .ensures ts is) (k .ack .ensures) (w .put-log .ensures t p q)
+    sent-parts t ts (z .args .a) (now (z .args .by)) p q (sym (x .asks .ensures ts is) ∙ e .if1 .left) (a .asks2 .ensures ts is) (b .asks3 .ensures ts is)
+    (d .asks4 .ensures ts is) (f .asks5 .ensures ts is) (k .ack .ensures) (w .put-log .ensures)
 
 pub get-log-spec : {M : Type 1} → statement M
 get-log-spec =
