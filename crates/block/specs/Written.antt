@@ -1,11 +1,11 @@
 -- Bytes written over others, and the laws by which loops of stores write them.
 use mathlib.Core.Path.{_≡_, sym, ap, ap₂, _∙_}
 use mathlib.Core.List.{List, [], _∷_, _++_, append-assoc, append-nil}
-use Prim.Native.Nat.{ℕ, suc, _+_, _≤_, _<_}
+use Prim.Native.Nat.{ℕ, suc, _+_, _-_, _≤_, _<_}
 use native.Mathlib.Omega.{arith}
 use native.Mathlib.Numerals.{add-one}
-use lib.ListN.{length, take, drop, set, getD, length-append, length-take, length-drop, take-append-drop, replicate, length-replicate, drop-of-length-le}
-use lib.Seq.{take-suc, length-take-le, take-at, drop-at, set-at, drop-drop, drop-cons, take-append-le, take-take}
+use lib.ListN.{length, take, drop, set, getD, length-append, length-take, length-drop, take-append-drop, replicate, length-replicate, drop-of-length-le, List·getD-append, replicate-append-replicate}
+use lib.Seq.{take-suc, length-take-le, take-at, drop-at, set-at, drop-drop, drop-cons, take-append-le, take-take, getD-take, getD-drop, getD-append-add}
 
 -- l with bs in place of what stood from index a on
 unfoldable pub over : List ℕ → ℕ → List ℕ → List ℕ
@@ -81,10 +81,31 @@ over-before l a m xs ys n h =
     ∙ ap (λ (k : ℕ). take a l ++ (xs ++ (ys ++ drop k l))) sum
     ∙ ap (λ (w : List ℕ). take a l ++ w) (sym (append-assoc xs ys (drop (a + length (xs ++ ys)) l)))
 
--- zeros over all
-pub over-all : (l : List ℕ) → over l 0 (replicate (length l) 0) ≡ replicate (length l) 0
+-- what was not written over
+pub over-low : (l : List ℕ) (a p : ℕ) (xs : List ℕ) → a ≤ length l → p < a → getD (over l a xs) p 0 ≡ getD l p 0
 unfolding over
-over-all l =
-    let n = length-replicate {A = ℕ} (length l) 0 in
-    let h : length l ≤ 0 + length (replicate {A = ℕ} (length l) 0) = omega arith in
-    ap (λ (x : List ℕ). replicate (length l) 0 ++ x) (drop-of-length-le l h) ∙ append-nil (replicate (length l) 0)
+over-low l a p xs h k =
+    List·getD-append (take a l) (xs ++ drop (a + length xs) l) 0 p (let q = length-take-le a l h in omega arith) ∙ getD-take a l p 0 k
+
+pub over-high : (l : List ℕ) (a p : ℕ) (xs : List ℕ) → a ≤ length l → a + length xs ≤ p → getD (over l a xs) p 0 ≡ getD l p 0
+unfolding over
+over-high l a p xs h k =
+    let n : length (take a l ++ xs) ≡ a + length xs = simp (length-append, length-take) (omega arith) in
+    let m : p ≡ length (take a l ++ xs) + (p - (a + length xs)) = omega arith in
+    let z : a + length xs + (p - (a + length xs)) ≡ p = omega arith in
+    ap₂ (λ (x : List ℕ) (y : ℕ). getD x y 0) (sym (append-assoc (take a l) xs (drop (a + length xs) l))) m
+    ∙ getD-append-add (take a l ++ xs) (drop (a + length xs) l) (p - (a + length xs)) 0
+    ∙ getD-drop (a + length xs) l (p - (a + length xs)) 0
+    ∙ ap (λ (y : ℕ). getD l y 0) z
+
+-- one zero more
+pub zero-more : (l m : List ℕ) (a j : ℕ) → a + j < length l → m ≡ over l a (replicate j 0) → set m (a + j) 0 ≡ over l a (replicate (j + 1) 0)
+zero-more l m a j h q =
+    ap (λ (x : List ℕ). set x (a + j) 0) q
+    ∙ over-more l a j 0 (replicate j 0) (length-replicate j 0) h
+    ∙ ap (over l a) (replicate-append-replicate j 1 0)
+
+-- as many bytes over all
+pub over-all : (l xs : List ℕ) → length xs ≡ length l → over l 0 xs ≡ xs
+unfolding over
+over-all l xs n = ap (λ (x : List ℕ). xs ++ x) (drop-of-length-le l {i = 0 + length xs} (omega arith)) ∙ append-nil xs

@@ -105,3 +105,15 @@ pub fn zeros(s: &[u8]) -> bool
     }
     o == 0
 }
+
+// Sets n bytes from a on to zero.
+pub fn clear(out: &mut [u8], a: usize, n: usize)
+    requires { ⌜ a + n ≤ length (now out) ⌝ }
+    ensures { λ _. ⌜ now (out .exit) ≡ over (now (out .entry)) a (replicate n 0) ⌝ }
+{
+    let mut j: usize = 0;
+    while j < n {
+        out[a + j] = 0;
+        j += 1;
+    }
+}

@@ -1,28 +1,11 @@
 -- Bytes moved by a block within the store, one by one.
 use mathlib.Core.Path.{_≡_, sym, ap, ap₂, _∙_}
-use mathlib.Core.List.{List, _∷_, _++_, append-assoc}
+use mathlib.Core.List.{List, _∷_}
 use Prim.Native.Nat.{ℕ, suc, _+_, _-_, _≤_, _<_}
 use native.Mathlib.Omega.{arith}
-use lib.ListN.{length, take, drop, set, getD, replicate, length-append, length-take, length-drop, length-replicate, List·getD-append, replicate-append-replicate}
-use lib.Seq.{length-take-le, getD-take, getD-drop, getD-append-add, take-suc, drop-cons}
-use Rattle.block.specs.Written.{over, over-more, over-front}
-
--- what was not written over
-over-low : (l : List ℕ) (a p : ℕ) (xs : List ℕ) → a ≤ length l → p < a → getD (over l a xs) p 0 ≡ getD l p 0
-unfolding over
-over-low l a p xs h k =
-    List·getD-append (take a l) (xs ++ drop (a + length xs) l) 0 p (let q = length-take-le a l h in omega arith) ∙ getD-take a l p 0 k
-
-over-high : (l : List ℕ) (a p : ℕ) (xs : List ℕ) → a ≤ length l → a + length xs ≤ p → getD (over l a xs) p 0 ≡ getD l p 0
-unfolding over
-over-high l a p xs h k =
-    let n : length (take a l ++ xs) ≡ a + length xs = simp (length-append, length-take) (omega arith) in
-    let m : p ≡ length (take a l ++ xs) + (p - (a + length xs)) = omega arith in
-    let z : a + length xs + (p - (a + length xs)) ≡ p = omega arith in
-    ap₂ (λ (x : List ℕ) (y : ℕ). getD x y 0) (sym (append-assoc (take a l) xs (drop (a + length xs) l))) m
-    ∙ getD-append-add (take a l ++ xs) (drop (a + length xs) l) (p - (a + length xs)) 0
-    ∙ getD-drop (a + length xs) l (p - (a + length xs)) 0
-    ∙ ap (λ (y : ℕ). getD l y 0) z
+use lib.ListN.{length, take, drop, set, getD, length-drop}
+use lib.Seq.{length-take-le, getD-drop, take-suc, drop-cons}
+use Rattle.block.specs.Written.{over, over-more, over-front, over-low, over-high}
 
 -- a turn upwards, from the last byte on
 pub up-more : (l m : List ℕ) (j e : ℕ) → 0 < j → j ≤ e → e + 512 ≤ length l → m ≡ over l (j + 512) (take (e - j) (drop j l))
@@ -59,10 +42,3 @@ down-more l m a j e h p k q =
     (λ t. set (q t) (at t) (read t))
     ∙ over-more l a i (getD d i 0) xs lx (omega arith)
     ∙ ap (over l a) (sym (take-suc d i 0 (omega arith)) ∙ ap (λ (n : ℕ). take n d) (sym one))
-
--- one zero more
-pub zero-more : (l m : List ℕ) (a j : ℕ) → a + j < length l → m ≡ over l a (replicate j 0) → set m (a + j) 0 ≡ over l a (replicate (j + 1) 0)
-zero-more l m a j h q =
-    ap (λ (x : List ℕ). set x (a + j) 0) q
-    ∙ over-more l a j 0 (replicate j 0) (length-replicate j 0) h
-    ∙ ap (over l a) (replicate-append-replicate j 1 0)

@@ -39,24 +39,12 @@ fn move_down(store: &mut [u8], a: usize, e: usize)
     }
 }
 
-// Sets n bytes from a on to zero.
-fn clear(store: &mut [u8], a: usize, n: usize)
-    requires { ⌜ a + n ≤ length (now store) ⌝ }
-    ensures { λ _. ⌜ now (store .exit) ≡ over (now (store .entry)) a (replicate n 0) ⌝ }
-{
-    let mut j: usize = 0;
-    while j < n {
-        store[a + j] = 0;
-        j += 1;
-    }
-}
-
 // Makes every block blank.
 pub fn blank(store: &mut [u8])
     ensures { λ _. ⌜ now (store .exit) ≡ replicate (length (now (store .entry))) 0 ⌝ }
 {
     let n = store.len();
-    clear(store, 0, n);
+    block::clear(store, 0, n);
 }
 
 // Puts a block in at a place, if one is blank; those from there on move up.
@@ -110,7 +98,7 @@ fn remove(store: &mut [u8], i: usize)
     let last = count(store) * 512 - 512;
     let a = i * 512;
     move_down(store, a, last);
-    clear(store, last, 512);
+    block::clear(store, last, 512);
 }
 
 // Removes the entry under a key; its room is used again.

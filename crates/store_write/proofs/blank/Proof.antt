@@ -1,4 +1,5 @@
 use mathlib.Core.Path.{_∙_}
+use lib.ListN.{length-replicate}
 use Rattle.block.specs.Written.{over-all}
 use borrow.Author.Needs.{needs}
 use Rattle.store_write.proofs.blank.Statement.{statement}
@@ -11,7 +12,7 @@ same-length : tie.Need-same-length
 same-length c = search needs
 
 returns : tie.Need-returns
-returns c = c .before .before .clear .ensures ∙ over-all _
+returns c = c .before .before .clear .ensures ∙ over-all _ _ (length-replicate _ 0)
 
 pub blank-spec : {M : Type 1} → statement M
 blank-spec = tie.close (tie.spec clear-requires same-length returns)

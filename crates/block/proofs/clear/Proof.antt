@@ -3,25 +3,24 @@ use native.Mathlib.Omega.{arith}
 use native.Mathlib.Nat.{le-antisymm}
 use mathlib.Core.Path.{_≡_, _∙_, ap, refl, sym}
 use lib.ListN.{length, replicate, length-set}
-use Rattle.block.specs.Written.{over, over-none}
-use Rattle.store_write.specs.Move.{zero-more}
-use Rattle.store_write.proofs.clear.Statement.{statement}
-use Rattle.store_write.proofs.clear.Tie as tie
+use Rattle.block.specs.Written.{over, over-none, zero-more}
+use Rattle.block.proofs.clear.Statement.{statement}
+use Rattle.block.proofs.clear.Tie as tie
 
 abbrev Inv-loop : tie.InvT-loop
-Inv-loop store₀ a n j₀ store j = (j ≤ n) × (store ≡ over store₀ a (replicate j 0)) × (length store ≡ length store₀)
+Inv-loop out₀ a n j₀ out j = (j ≤ n) × (out ≡ over out₀ a (replicate j 0)) × (length out ≡ length out₀)
 
 abbrev μ-loop : tie.MeasureT-loop
-μ-loop store₀ a n j₀ store j = n - j
+μ-loop out₀ a n j₀ out j = n - j
 
 loop-holds : tie.Need-loop-holds Inv-loop μ-loop
 loop-holds c = (omega arith, sym (over-none _ _), refl)
 
-add-store : tie.Need-add-store Inv-loop μ-loop
-add-store c = omega arith
+add-out : tie.Need-add-out Inv-loop μ-loop
+add-out c = omega arith
 
-slice-write-store : tie.Need-slice-write-store Inv-loop μ-loop
-slice-write-store c = omega arith
+slice-write-out : tie.Need-slice-write-out Inv-loop μ-loop
+slice-write-out c = omega arith
 
 add-j : tie.Need-add-j Inv-loop μ-loop
 add-j c = omega arith
@@ -32,7 +31,7 @@ loop-less c = omega arith
 loop-again : tie.Need-loop-again Inv-loop μ-loop
 loop-again c = let s = c .before .before in
     let inv = c .before .loop .inv in
-    (omega arith, zero-more (s .args .store .now) _ (s .args .a) (c .before .loop .j) (omega arith) (inv .1), simp length-set (inv .2))
+    (omega arith, zero-more (s .args .out .now) _ (s .args .a) (c .before .loop .j) (omega arith) (inv .1), simp length-set (inv .2))
 
 same-length : tie.Need-same-length Inv-loop μ-loop
 same-length c = c .before .loop .inv .2
@@ -40,7 +39,7 @@ same-length c = c .before .loop .inv .2
 returns : tie.Need-returns Inv-loop μ-loop
 returns c = let s = c .before .before .args in
     let inv = c .before .loop .inv in
-    inv .1 ∙ ap (λ (k : ℕ). over (s .store .now) (s .a) (replicate k 0)) (le-antisymm (inv .0) (c .loop-test .left))
+    inv .1 ∙ ap (λ (k : ℕ). over (s .out .now) (s .a) (replicate k 0)) (le-antisymm (inv .0) (c .loop-test .left))
 
 pub clear-spec : {M : Type 1} → statement M
 clear-spec =
@@ -49,8 +48,8 @@ clear-spec =
     Inv-loop
     μ-loop
     loop-holds
-    add-store
-    slice-write-store
+    add-out
+    slice-write-out
     add-j
     loop-less
     loop-again
