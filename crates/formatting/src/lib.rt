@@ -14,14 +14,7 @@ pub enum Formatted {
 pub fn format(store: &mut [u8], device: &mut Record, key: &[u8]) -> Formatted
     ensures { λ r. ⌜ Told (formatNumber r) (now (store .entry)) (now (device .entry)) (now (key .entry)) (now (store .exit)) (now (device .exit)) ⌝ }
 {
-    let n = store.len();
-    if n < 512 {
-        return Formatted::StoreBad;
-    }
-    if 65536 < n {
-        return Formatted::StoreBad;
-    }
-    if n % 512 != 0 {
+    if !store::size_good(store) {
         return Formatted::StoreBad;
     }
     if key.len() == 0 {

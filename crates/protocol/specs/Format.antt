@@ -1,19 +1,14 @@
 -- Document 01, "What the box does", Format: "makes the device record and a store of blank blocks. The one ACL is identity 1, a key from the
 -- host, one scope with every permission, cluster version 0." "Format gives 2 only for the store's length, then 6; it ignores old contents."
-use mathlib.Core.Bool.{Bool}
 use mathlib.Core.List.{List}
 use mathlib.Core.Path.{_≡_}
-use Prim.Native.Nat.{ℕ, _*_}
+use Prim.Native.Nat.{ℕ}
 use lib.Dec.{eqb}
 use lib.ListN.{length, replicate}
 use Rattle.wire.specs.Reader.{choose}
-use Rattle.access.specs.Table.{both, within, hostTable}
+use Rattle.access.specs.Table.{within, hostTable}
 use Rattle.access.specs.Record.{tableBytes}
-use Rattle.store.specs.Store.{blocksIn}
-
--- "1 to 128 blocks of 512"
-unfoldable pub sizeGood : List ℕ → Bool
-sizeGood l = both (within 1 128 (blocksIn l)) (eqb (blocksIn l * 512) (length l))
+use Rattle.store.specs.Store.{sizeGood}
 
 -- 0, or the refusal: 2 STORE_BAD, then 6 KEY_BAD, "host key not 1 to 64 bytes"
 unfoldable pub formatRefusal : List ℕ → List ℕ → ℕ

@@ -2,43 +2,19 @@
 use mathlib.Core.Path.{_≡_, refl, sym, ap, _∙_}
 use mathlib.Core.Bool.{Bool, true, false}
 use mathlib.Core.List.{List}
-use Prim.Native.Nat.{ℕ, _*_, _%_, _≤_, _<_}
+use Prim.Native.Nat.{ℕ, _≤_, _<_}
 use native.Mathlib.Omega.{arith}
-use lib.Dec.{eqb, leb}
+use lib.Dec.{leb}
 use lib.ListN.{length, replicate}
-use borrow.Author.Tests.{le-leb, lt-leb, leb-true, eq-eqb, ne-eqb}
-use Rattle.access.specs.Table.{both, within, hostTable}
+use borrow.Author.Tests.{le-leb, lt-leb}
+use Rattle.access.specs.Table.{both, hostTable}
 use Rattle.access.specs.Record.{tableBytes}
-use Rattle.store.specs.Store.{blocksIn}
-use Rattle.protocol.specs.Format.{sizeGood, formatRefusal, unlessRefused, Told}
+use Rattle.store.specs.Store.{sizeGood}
+use Rattle.protocol.specs.Format.{formatRefusal, unlessRefused, Told}
 
 both-no : (x : Bool) → both x false ≡ false
 both-no true = refl
 both-no false = refl
-
-pub size-short : (l : List ℕ) → length l < 512 → sizeGood l ≡ false
-unfolding sizeGood
-size-short l h = rw (lt-leb 1 (blocksIn l) (omega arith))
-
-pub size-odd : (l : List ℕ) → (length l % 512 ≡ 0 → ⊥) → sizeGood l ≡ false
-unfolding sizeGood
-size-odd l h = rw (ne-eqb (blocksIn l * 512) (length l) (λ e. h (omega arith))) (both-no (within 1 128 (blocksIn l)))
-
-pub size-long : (l : List ℕ) → 65536 < length l → sizeGood l ≡ false
-unfolding sizeGood
-size-long l h = go (leb (blocksIn l) 128) refl
-  where
-    go : (t : Bool) → leb (blocksIn l) 128 ≡ t → both (both (leb 1 (blocksIn l)) t) (eqb (blocksIn l * 512) (length l)) ≡ false
-    go true e =
-        let b = leb-true (blocksIn l) 128 e in
-        rw (ne-eqb (blocksIn l * 512) (length l) (λ q. absurd (omega arith))) (both-no (both (leb 1 (blocksIn l)) true))
-    go false e = rw (both-no (leb 1 (blocksIn l)))
-
-pub size-right : (l : List ℕ) → 512 ≤ length l → length l ≤ 65536 → length l % 512 ≡ 0 → sizeGood l ≡ true
-unfolding sizeGood
-size-right l a b c =
-    let e : blocksIn l * 512 ≡ length l = omega arith in
-    rw (le-leb 1 (blocksIn l) (omega arith), le-leb (blocksIn l) 128 (omega arith), eq-eqb (blocksIn l * 512) (length l) e)
 
 pub told : (n : ℕ) (store device key store' device' : List ℕ) → formatRefusal store key ≡ n
     → store' ≡ unlessRefused n (replicate (length store) 0) store → device' ≡ unlessRefused n (tableBytes (hostTable key)) device

@@ -1,6 +1,7 @@
 pub mod Store
 pub mod Entries
 pub mod StoreLaws
+pub mod Size
 pub mod EntriesLaws
 pub mod Walk
 pub mod Check

@@ -13,6 +13,10 @@ use Rattle.block.specs.Block.{block, decode, both, isEqual, isLess, blockTest}
 abbrev pub blocksIn : List ℕ → ℕ
 blocksIn l = length l / 512
 
+-- "1 to 128 blocks of 512"
+unfoldable pub sizeGood : List ℕ → Bool
+sizeGood l = both (leb 1 (blocksIn l)) (both (leb (blocksIn l) 128) (eqb (blocksIn l * 512) (length l)))
+
 unfoldable pub blocks : List Entry → List ℕ
 blocks [] = []
 blocks (e ∷ es) = block e ++ blocks es

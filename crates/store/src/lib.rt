@@ -1,7 +1,7 @@
 // The entries of a lent store: what calls on it answer, where a key stands, and what stands at a place.
 ghost use mathlib.Core.Path.{_≡_};
 ghost use lib.ListN.{length};
-ghost use Rattle.store.specs.Store.{entriesOf, Good};
+ghost use Rattle.store.specs.Store.{sizeGood, entriesOf, Good};
 ghost use Rattle.store.specs.Entries.{Sought, EntryAt, noParts};
 use block::Order;
 
@@ -39,6 +39,19 @@ pub enum PutAnswer {
 pub enum DeleteAnswer {
     Deleted,
     Missing,
+}
+
+// Whether there are 1 to 128 whole blocks.
+pub fn size_good(store: &[u8]) -> bool
+    ensures { λ r. ⌜ r ≡ sizeGood (now (store .entry)) ⌝ }
+{
+    if store.len() < 512 {
+        return false;
+    }
+    if 65536 < store.len() {
+        return false;
+    }
+    store.len() % 512 == 0
 }
 
 // The number of used blocks.

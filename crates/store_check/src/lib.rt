@@ -45,13 +45,7 @@ fn blocks_good(store: &[u8]) -> bool
 pub fn check(store: &[u8]) -> bool
     ensures { λ r. ⌜ r ≡ storeGood (now (store .entry)) ⌝ }
 {
-    if store.len() < 512 {
-        return false;
-    }
-    if 65536 < store.len() {
-        return false;
-    }
-    if store.len() % 512 != 0 {
+    if !store::size_good(store) {
         return false;
     }
     blocks_good(store)

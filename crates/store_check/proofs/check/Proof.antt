@@ -1,26 +1,27 @@
-use native.Mathlib.Omega.{arith}
+use mathlib.Core.Path.{_∙_, sym}
+use borrow.Author.Tests.{not-true, not-false}
 use Rattle.block.specs.Decides.{says-no, decides-by}
-use Rattle.store.specs.StoreLaws.{good-length}
+use Rattle.store.specs.Size.{SizeGood, size-decides, good-size}
 use Rattle.store.specs.Check.{good-from, from-good, is-test}
 use borrow.Author.Needs.{needs}
 use Rattle.store_check.proofs.check.Statement.{statement}
 use Rattle.store_check.proofs.check.Tie as tie
 
+sized : (c : tie.Else1) → SizeGood (c .before .before .before .args .store .now)
+sized c = size-decides _ .yes (sym (c .before .size-good .ensures) ∙ not-false _ (c .if1 .left))
+
+size-good-requires : tie.Need-size-good-requires
+size-good-requires c κs = search needs
+
 returns : tie.Need-returns
-returns c = is-test _ _ (says-no (λ g. let s = g .some in omega arith))
-
-returns-2 : tie.Need-returns-2
-returns-2 c = is-test _ _ (says-no (λ g. let s = g .most in let q = good-length _ g in omega arith))
-
-returns-3 : tie.Need-returns-3
-returns-3 c = is-test _ _ (says-no (λ g. let q = good-length _ g in c .if3 .taken (omega arith)))
+returns c = is-test _ _ (says-no (λ g. size-decides _ .no (sym (c .before .size-good .ensures) ∙ not-true _ (c .if1 .taken)) (good-size _ g)))
 
 blocks-good-requires : tie.Need-blocks-good-requires
-blocks-good-requires c κs = search needs
+blocks-good-requires c κs = let s = sized c in sym (s .whole)
 
-returns-4 : tie.Need-returns-4
-returns-4 c = let l = c .before .before .before .before .before .args .store .now in
-    is-test _ l (decides-by (from-good l (omega arith) (omega arith)) (good-from l) (c .blocks-good .ensures))
+returns-2 : tie.Need-returns-2
+returns-2 c = let s = sized (c .before) in
+    is-test _ _ (decides-by (from-good _ (s .some) (s .most)) (good-from _) (c .blocks-good .ensures))
 
 pub check-spec : {M : Type 1} → statement M
-check-spec = tie.close (tie.spec returns returns-2 returns-3 blocks-good-requires returns-4)
+check-spec = tie.close (tie.spec size-good-requires returns blocks-good-requires returns-2)
