@@ -35,6 +35,10 @@ body e = head e ++ (fill 64 (e .key) ++ (fill 16 (e .version) ++ (fill 32 (e .ta
 unfoldable pub block : Entry → List ℕ
 block e = body e ++ be32 (sumFrom 0 (body e))
 
+-- the same of any block's bytes: "508-511: sum over bytes 0 to 507 of byte times (place + 1)"
+abbrev pub SumRight : List ℕ → Type 0
+SumRight b = drop 508 b ≡ be32 (sumFrom 0 (take 508 b))
+
 -- what the bytes of a block say, whatever follows them
 unfoldable pub decode : List ℕ → Entry
 decode b =
@@ -73,3 +77,6 @@ fitTest e =
 
 unfoldable pub blockTest : List ℕ → Bool
 blockTest b = both (fitTest (decode b)) (isEqual (cmp (block (decode b)) b))
+
+unfoldable pub sumTest : List ℕ → Bool
+sumTest b = isEqual (cmp (drop 508 b) (be32 (sumFrom 0 (take 508 b))))

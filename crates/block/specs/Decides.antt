@@ -5,13 +5,14 @@ use mathlib.Core.List.{List}
 use Prim.Native.Nat.{ℕ, _≤_}
 use native.Mathlib.Omega.{arith}
 use lib.Dec.{leb, eqb}
+use lib.ListN.{take, drop}
 use borrow.Author.Tests.{leb-true, leb-false, eqb-true, eqb-false}
 use Rattle.block.specs.declared.Order.{Order}
 use Rattle.block.specs.declared.Order.the-variants.{Less, Equal, Greater}
 use Rattle.block.specs.Order.{cmp, Below}
 use Rattle.block.specs.OrderLaws.{cmp-equal, cmp-refl}
 use Rattle.block.specs.Entry.{Entry, Fit}
-use Rattle.block.specs.Block.{block, decode, BlockGood, both, isEqual, isLess, fitTest, blockTest}
+use Rattle.block.specs.Block.{sumFrom, be32, block, SumRight, decode, BlockGood, both, isEqual, isLess, fitTest, blockTest, sumTest}
 
 pub record Decides (r : Bool) (P : Type 0) : Type 0 where
   pub yes : r ≡ true → P
@@ -25,6 +26,17 @@ says-no p = record { yes = λ e. absurd (let z : _≡_ {A = ℕ} 0 1 = cc in ome
 
 pub decides-by : {r : Bool} {P Q : Type 0} → (P → Q) → (Q → P) → Decides r P → Decides r Q
 decides-by f g d = record { yes = λ e. f (d .yes e); no = λ e q. d .no e (g q) }
+
+-- a Bool that decides a claim where another holds
+pub record DecidesGiven (S : Type 0) (r : Bool) (P : Type 0) : Type 0 where
+  pub yes : r ≡ true → S → P
+  pub no : r ≡ false → P → ⊥
+
+pub given-yes : {S P : Type 0} → (S → P) → DecidesGiven S true P
+given-yes f = record { yes = λ e s. f s; no = λ e q. let z : _≡_ {A = ℕ} 0 1 = cc in omega arith }
+
+pub given-no : {S P : Type 0} → (P → ⊥) → DecidesGiven S false P
+given-no p = record { yes = λ e s. says-no p .yes e; no = λ e q. p q }
 
 -- two that decide the same claim are equal
 pub agree : (r b : Bool) {P : Type 0} → Decides r P → Decides b P → r ≡ b
@@ -76,3 +88,7 @@ unfolding blockTest
 block-decides b =
     decides-by (λ w. record { fit = w .0; same = w .1 }) (λ g. (g .fit, g .same))
     (both-decides _ _ (fit-decides (decode b)) (equal-decides (block (decode b)) b))
+
+pub sum-decides : (b : List ℕ) → Decides (sumTest b) (SumRight b)
+unfolding sumTest
+sum-decides b = equal-decides (drop 508 b) (be32 (sumFrom 0 (take 508 b)))

@@ -8,7 +8,7 @@ use lib.Bits.{bitOr, or-add-and, and-le-l, and-le-r}
 use lib.ListN.{length, take, drop, getD, replicate, getD-replicate, length-take, length-drop, take-append-drop, replicate-append-replicate}
 use lib.Seq.{take-at, drop-at, getD-drop, drop-drop, take-suc, take-all, take-append-add, take-length, length-take-le}
 use Rattle.block.specs.Entry.{Entry, Fit}
-use Rattle.block.specs.Block.{fill, sumFrom, be32, head, body, block, decode, BlockGood}
+use Rattle.block.specs.Block.{fill, sumFrom, be32, head, body, block, SumRight, decode, BlockGood}
 use Rattle.block.specs.BlockLaws.{sized, length-fill, length-body}
 use lib.Dec.{eqb}
 use Rattle.block.specs.Decides.{Decides, decides-by, eqb-decides}
@@ -67,7 +67,6 @@ pub record Direct (b : List ℕ) (k v t n : ℕ) : Type 0 where
   pub version : Zero (take (88 - (72 + v)) (drop (72 + v) b))
   pub tag : Zero (take (120 - (88 + t)) (drop (88 + t) b))
   pub value : Zero (take (508 - (120 + n)) (drop (120 + n) b))
-  pub sum : sumFrom 0 (take 508 b) ≡ numberAt b
 
 -- ---- a gap
 module _ (b : List ℕ) (a m e k : ℕ) (q : e ≡ a + m) (h : k ≤ m) (l : e ≤ length b) where
@@ -130,6 +129,26 @@ flat-body e r h =
     flat : (a b c d f g r : List ℕ) → (a ++ (b ++ (c ++ (d ++ (f ++ g))))) ++ r ≡ a ++ (b ++ (c ++ (d ++ ((f ++ g) ++ r))))
     flat a b c d f g r = simp append-assoc
 
+-- a number is known by its four bytes
+be-same : (m n : ℕ) → be32 m ≡ be32 n → m ≡ n
+unfolding be32
+be-same m n e = back m ∙ ap number e ∙ sym (back n)
+  where
+    number : List ℕ → ℕ
+    number l = getD l 0 0 * 16777216 + getD l 1 0 * 65536 + getD l 2 0 * 256 + getD l 3 0
+
+    back : (w : ℕ) → w ≡ w / 16777216 * 16777216 + w / 65536 % 256 * 65536 + w / 256 % 256 * 256 + w % 256
+    back w = omega arith
+
+pub good-sum : (b : List ℕ) → BlockGood b → SumRight b
+unfolding block
+good-sum b g =
+    let e : Entry = decode b in
+    let l = length-body e (sized (g .fit)) in
+    let c : List ℕ = be32 (sumFrom 0 (body e)) in
+    ap (drop 508) (sym (g .same)) ∙ drop-at (body e) c 508 l
+    ∙ ap (λ (x : List ℕ). be32 (sumFrom 0 x)) (sym (take-at (body e) c 508 l) ∙ ap (take 508) (g .same))
+
 module _ (b : List ℕ) (h : length b ≡ 512) where
   pub last-four : drop 508 b ≡ getD b 508 0 ∷ getD b 509 0 ∷ getD b 510 0 ∷ getD b 511 0 ∷ []
   unfolding places
@@ -158,16 +177,20 @@ module _ (b : List ℕ) (h : length b ≡ 512) where
       (λ i. f' i ∷ l1 i ∷ l2 i ∷ l3 i ∷ q4 i ∷ q5 i ∷ getD b 6 0 ∷ g' i ∷ [])
       ∙ sym (take-places b 8 (omega arith))
 
-  -- the bytes of the sum that they hold
-  sum-same : {r : ℕ} → Held b r → be32 (numberAt b) ≡ drop 508 b
+  -- the last four bytes are those of the number that they hold
+  held-bytes : {u : ℕ} → Held b u → drop 508 b ≡ be32 u
   unfolding be32 numberAt
-  sum-same d =
-      let b1 = d .byte1 in let b2 = d .byte2 in let b3 = d .byte3 in
-      let e0 : (getD b 508 0 * 16777216 + getD b 509 0 * 65536 + getD b 510 0 * 256 + getD b 511 0) / 16777216 ≡ getD b 508 0 = omega arith in
-      let e1 : (getD b 508 0 * 16777216 + getD b 509 0 * 65536 + getD b 510 0 * 256 + getD b 511 0) / 65536 % 256 ≡ getD b 509 0 = omega arith in
-      let e2 : (getD b 508 0 * 16777216 + getD b 509 0 * 65536 + getD b 510 0 * 256 + getD b 511 0) / 256 % 256 ≡ getD b 510 0 = omega arith in
-      let e3 : (getD b 508 0 * 16777216 + getD b 509 0 * 65536 + getD b 510 0 * 256 + getD b 511 0) % 256 ≡ getD b 511 0 = omega arith in
-      (λ i. e0 i ∷ e1 i ∷ e2 i ∷ e3 i ∷ []) ∙ sym last-four
+  held-bytes {u} d =
+      let q = d .same in let b1 = d .byte1 in let b2 = d .byte2 in let b3 = d .byte3 in
+      let e0 : getD b 508 0 ≡ u / 16777216 = omega arith in
+      let e1 : getD b 509 0 ≡ u / 65536 % 256 = omega arith in
+      let e2 : getD b 510 0 ≡ u / 256 % 256 = omega arith in
+      let e3 : getD b 511 0 ≡ u % 256 = omega arith in
+      last-four ∙ (λ i. e0 i ∷ e1 i ∷ e2 i ∷ e3 i ∷ [])
+
+  pub held-decides : {s u : ℕ} → s ≡ sumFrom 0 (take 508 b) → Held b u → Decides (eqb s u) (SumRight b)
+  held-decides {s} {u} p d =
+      decides-by (λ e. held-bytes d ∙ ap be32 (sym e ∙ p)) (λ q. p ∙ be-same _ _ (sym q ∙ held-bytes d)) (eqb-decides s u)
 
   value-short : Small b → length (decode b .value) ≤ 384
   value-short s = fit-of b h s .value-fits
@@ -189,19 +212,19 @@ module _ (b : List ℕ) (h : length b ≡ 512) where
       ∙ ap (λ (x : List ℕ). take 8 b ++ x) (cut b 8 64 72 refl)
       ∙ take-append-drop 8 b
 
-  good-here : Small b → getD b 5 0 < 256 → {r : ℕ} → Held b r → Direct b (getD b 1 0) (getD b 2 0) (getD b 3 0) (getD b 4 0 * 256 + getD b 5 0) → BlockGood b
+  good-here : Small b → getD b 5 0 < 256 → SumRight b → Direct b (getD b 1 0) (getD b 2 0) (getD b 3 0) (getD b 4 0 * 256 + getD b 5 0) → BlockGood b
   unfolding block
-  good-here s b5 u d =
+  good-here s b5 q d =
       let f : Fit (decode b) = fit-of b h s in
       let w = whole s b5 d in
       let t : body (decode b) ≡ take 508 b = sym (take-at (body (decode b)) (drop 508 b) 508 (length-body (decode b) (sized f))) ∙ ap (take 508) w in
       record {
         fit = f;
-        same = ap (λ (x : ℕ). body (decode b) ++ be32 x) (ap (sumFrom 0) t ∙ d .sum) ∙ ap (λ (x : List ℕ). body (decode b) ++ x) (sum-same u) ∙ w;
+        same = ap (λ (x : List ℕ). body (decode b) ++ x) (ap (λ (x : List ℕ). be32 (sumFrom 0 x)) t ∙ sym q) ∙ w;
       }
 
   direct-here : BlockGood b → Direct b (getD b 1 0) (getD b 2 0) (getD b 3 0) (getD b 4 0 * 256 + getD b 5 0)
-  unfolding block decode head be32 numberAt
+  unfolding block decode head
   direct-here g =
       let f = g .fit in
       let s = small-of b h g in
@@ -212,7 +235,6 @@ module _ (b : List ℕ) (h : length b ≡ 512) where
       let r3 : List ℕ = fill 32 (e .tag) ++ r4 in
       let r2 : List ℕ = fill 16 (e .version) ++ r3 in
       let r1 : List ℕ = fill 64 (e .key) ++ r2 in
-      let lb = length-body e (sized f) in
       let w0 : b ≡ head e ++ r1 = sym (g .same) ∙ flat-body e (be32 w) (f .value-fits) in
       let d1 : drop 8 b ≡ r1 = ap (drop 8) w0 ∙ drop-at (head e) r1 8 refl in
       let k1 = length-fill 64 (e .key) (f .key-fits) in
@@ -223,16 +245,10 @@ module _ (b : List ℕ) (h : length b ≡ 512) where
       let d2 : drop 72 b ≡ r2 = sym (drop-drop 64 8 b) ∙ ap (drop 64) d1 ∙ drop-at (fill 64 (e .key)) r2 64 k1 in
       let d3 : drop 88 b ≡ r3 = sym (drop-drop 16 72 b) ∙ ap (drop 16) d2 ∙ drop-at (fill 16 (e .version)) r3 16 k2 in
       let d4 : drop 120 b ≡ r4 = sym (drop-drop 32 88 b) ∙ ap (drop 32) d3 ∙ drop-at (fill 32 (e .tag)) r4 32 k3 in
-      let d5 : drop 508 b ≡ be32 w = sym (drop-drop 388 120 b) ∙ ap (drop 388) d4 ∙ drop-at (fill 388 (e .value)) (be32 w) 388 k4 in
       let t1 : take 64 (drop 8 b) ≡ fill 64 (e .key) = ap (take 64) d1 ∙ take-at (fill 64 (e .key)) r2 64 k1 in
       let t2 : take 16 (drop 72 b) ≡ fill 16 (e .version) = ap (take 16) d2 ∙ take-at (fill 16 (e .version)) r3 16 k2 in
       let t3 : take 32 (drop 88 b) ≡ fill 32 (e .tag) = ap (take 32) d3 ∙ take-at (fill 32 (e .tag)) r4 32 k3 in
       let t4 : take 388 (drop 120 b) ≡ fill 388 (e .value) = ap (take 388) d4 ∙ take-at (fill 388 (e .value)) (be32 w) 388 k4 in
-      let tb : take 508 b ≡ body e = ap (take 508) (sym (g .same)) ∙ take-at (body e) (be32 w) 508 lb in
-      let g0 : getD b 508 0 ≡ w / 16777216 = sym (getD-drop 508 b 0 0) ∙ ap (λ (x : List ℕ). getD x 0 0) d5 in
-      let g1 : getD b 509 0 ≡ w / 65536 % 256 = sym (getD-drop 508 b 1 0) ∙ ap (λ (x : List ℕ). getD x 1 0) d5 in
-      let g2 : getD b 510 0 ≡ w / 256 % 256 = sym (getD-drop 508 b 2 0) ∙ ap (λ (x : List ℕ). getD x 2 0) d5 in
-      let g3 : getD b 511 0 ≡ w % 256 = sym (getD-drop 508 b 3 0) ∙ ap (λ (x : List ℕ). getD x 3 0) d5 in
       record {
         first = ap (λ (x : List ℕ). getD x 0 0) w0;
         eighth = ap (λ (x : List ℕ). getD x 7 0) w0;
@@ -240,11 +256,7 @@ module _ (b : List ℕ) (h : length b ≡ 512) where
         version = unfilled b 72 16 88 (getD b 2 0) refl s3 (omega arith) (sym t2);
         tag = unfilled b 88 32 120 (getD b 3 0) refl s4 (omega arith) (sym t3);
         value = unfilled b 120 388 508 (getD b 4 0 * 256 + getD b 5 0) refl (omega arith) (omega arith) (sym t4);
-        sum = ap (sumFrom 0) tb ∙ be-sum w (getD b 508 0) (getD b 509 0) (getD b 510 0) (getD b 511 0) g0 g1 g2 g3;
       }
-    where
-      be-sum : (w x y z u : ℕ) → x ≡ w / 16777216 → y ≡ w / 65536 % 256 → z ≡ w / 256 % 256 → u ≡ w % 256 → w ≡ x * 16777216 + y * 65536 + z * 256 + u
-      be-sum w x y z u p q r s = omega arith
 
 -- the lengths under other names
 renamed : (b : List ℕ) {k k' v v' t t' n n' : ℕ} → k ≡ k' → v ≡ v' → t ≡ t' → n ≡ n' → Direct b k v t n → Direct b k' v' t' n'
@@ -255,7 +267,7 @@ module _ (b : List ℕ) (h : length b ≡ 512) (k v t n : ℕ) (p : k ≡ getD b
   pub direct : BlockGood b → Direct b k v t n
   direct g = renamed b (sym p) (sym q) (sym r) (sym s) (direct-here b h g)
 
-  pub direct-good : Small b → getD b 5 0 < 256 → {u : ℕ} → Held b u → Direct b k v t n → BlockGood b
+  pub direct-good : Small b → getD b 5 0 < 256 → SumRight b → Direct b k v t n → BlockGood b
   direct-good m b5 u d = good-here b h m b5 u (renamed b p q r s d)
 
 -- ---- zeros

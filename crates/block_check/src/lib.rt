@@ -1,8 +1,8 @@
 // The rules of one block.
 ghost use mathlib.Core.Path.{_≡_};
 ghost use lib.ListN.{length};
-ghost use Rattle.block.specs.Block.{BlockGood};
-ghost use Rattle.block.specs.Decides.{Decides};
+ghost use Rattle.block.specs.Block.{SumRight, BlockGood};
+ghost use Rattle.block.specs.Decides.{Decides, DecidesGiven};
 ghost use Rattle.block.specs.Direct.{Held, Small};
 use block::wide;
 use block::zeros;
@@ -18,6 +18,14 @@ fn held(b: &[u8]) -> u64
     let z = wide(b[510]) * 256;
     let w = wide(b[511]);
     (x + y + z + w) as u64
+}
+
+// Whether bytes 508 to 511 are the sum over bytes 0 to 507.
+pub fn sum_right(b: &[u8]) -> bool
+    requires { ⌜ length (now b) ≡ 512 ⌝ }
+    ensures { λ r. ⌜ Decides r (SumRight (now (b .entry))) ⌝ }
+{
+    sum(b) == held(b)
 }
 
 // Whether the lengths and the algorithm keep their limits.
@@ -47,10 +55,10 @@ fn limits(b: &[u8]) -> bool
     true
 }
 
-// Whether 512 bytes are the block of an entry.
-pub fn good(b: &[u8]) -> bool
+// Whether 512 bytes keep every rule of a block but the sum.
+pub fn rules_kept(b: &[u8]) -> bool
     requires { ⌜ length (now b) ≡ 512 ⌝ }
-    ensures { λ r. ⌜ Decides r (BlockGood (now (b .entry))) ⌝ }
+    ensures { λ r. ⌜ DecidesGiven (SumRight (now (b .entry))) r (BlockGood (now (b .entry))) ⌝ }
 {
     if !limits(b) {
         return false;
@@ -77,5 +85,16 @@ pub fn good(b: &[u8]) -> bool
     if !zeros(&b[ne..508]) {
         return false;
     }
-    sum(b) == held(b)
+    true
+}
+
+// Whether 512 bytes are the block of an entry.
+pub fn good(b: &[u8]) -> bool
+    requires { ⌜ length (now b) ≡ 512 ⌝ }
+    ensures { λ r. ⌜ Decides r (BlockGood (now (b .entry))) ⌝ }
+{
+    if !rules_kept(b) {
+        return false;
+    }
+    sum_right(b)
 }
