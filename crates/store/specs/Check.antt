@@ -118,7 +118,7 @@ end-out k l h = blank-out k l 0 h (nil l h)
 
 -- ---- a turn of the walk over the blocks
 
-key-at : (l : List ℕ) (a w : ℕ) → w ≡ getD l (a + 1) 0 → decode (drop a l) .key ≡ take (a + 8 + w - (a + 8)) (drop (a + 8) l)
+pub key-at : (l : List ℕ) (a w : ℕ) → w ≡ getD l (a + 1) 0 → decode (drop a l) .key ≡ take (a + 8 + w - (a + 8)) (drop (a + 8) l)
 unfolding decode
 key-at l a w e =
     let c : a + 8 + w - (a + 8) ≡ getD l (a + 1) 0 = omega arith in
