@@ -10,11 +10,16 @@
 #error "each step of a float must be rounded to f32"
 #endif
 
-enum { BLOCK = 512, MOST_STORE = 128 * BLOCK, ACL_PLACE = 368, SCOPE_PLACE = 72, MOST_MESSAGE = 8192, MOST_VALUE = 1024, MOST_KEYS = 32 };
+enum { BLOCK = 512, MOST_BLOCKS = 128, MOST_STORE = MOST_BLOCKS * BLOCK };
+
+enum { ACL_PLACE = 368, SCOPE_PLACE = 72, MOST_MESSAGE = 8192, MOST_VALUE = 1024, MOST_KEYS = 32 };
 
 enum { READING_PLACE = 22, MOST_NAME = 16, MOST_TEMPERATURES = 4, MOST_UTILIZATIONS = 2 };
 
-enum { OUT_SHORT = 1, STORE_BAD, DEVICE_BAD, CLOSED, MORE, KEY_BAD, READINGS_BAD };
+enum { OUT_SHORT = 1, STORE_BAD, DEVICE_BAD, CLOSED, MORE, KEY_BAD, READINGS_BAD, REPORT_BAD };
+
+/* What a rescue reports of a block. */
+enum { WAS_BLANK, KEPT, CHECK_WRONG, RULE_BROKEN, KEY_TWICE };
 
 enum {
     SUCCESS = 1,
@@ -109,11 +114,13 @@ static uint32_t sum(const uint8_t *b) {
 
 static size_t value_len(const uint8_t *b) { return (size_t)b[4] << 8 | b[5]; }
 
-static int block_good(const uint8_t *b) {
+static int sum_good(const uint8_t *b) { return sum(b) == be32(b + 508); }
+
+/* Every rule of a used block but the sum. */
+static int parts_good(const uint8_t *b) {
     size_t k = b[1], v = b[2], t = b[3], n = value_len(b);
     if (b[0] != 1 || k < 1 || k > 64 || v > 16 || t > 32 || n > 384 || b[6] > 6 || b[7]) return 0;
-    return zeros(b + 8 + k, 64 - k) && zeros(b + 72 + v, 16 - v) && zeros(b + 88 + t, 32 - t) && zeros(b + 120 + n, 388 - n) &&
-           sum(b) == be32(b + 508);
+    return zeros(b + 8 + k, 64 - k) && zeros(b + 72 + v, 16 - v) && zeros(b + 88 + t, 32 - t) && zeros(b + 120 + n, 388 - n);
 }
 
 static int order(bytes a, bytes b) {
@@ -131,7 +138,7 @@ static int check(const uint8_t *store, size_t len) {
     if (!store_length_good(len)) return -1;
     size_t used = 0;
     for (; used * BLOCK < len && store[used * BLOCK]; used++) {
-        if (!block_good(store + used * BLOCK)) return -1;
+        if (!parts_good(store + used * BLOCK) || !sum_good(store + used * BLOCK)) return -1;
         if (used && order(key_at(store, used - 1), key_at(store, used)) >= 0) return -1;
     }
     return zeros(store + used * BLOCK, len - used * BLOCK) ? (int)used : -1;
@@ -149,6 +156,58 @@ static size_t below(const uint8_t *store, size_t used, bytes key) {
 }
 
 static int is_at(const uint8_t *store, size_t used, size_t i, bytes key) { return i < used && order(key_at(store, i), key) == 0; }
+
+/* ---- Rescue */
+
+/* Not inlined: inside the loop of plain_rescue clang 14 makes slower code of the sum, half as slow again. */
+__attribute__((noinline)) static uint8_t found_alone(const uint8_t *b) {
+    if (b[0] == 0 && zeros(b, BLOCK)) return WAS_BLANK;
+    if (!sum_good(b)) return CHECK_WRONG;
+    return parts_good(b) ? KEPT : RULE_BROKEN;
+}
+
+/* Puts block i among those that are sorted by key; 0 where its key is there. The last is looked at first: most stores are nearly in order. */
+static int insert(const uint8_t *store, uint8_t *sorted, size_t count, size_t i) {
+    bytes key = key_at(store, i);
+    size_t from = 0, to = count, middle = count - 1;
+    while (from < to) {
+        int c = order(key_at(store, sorted[middle]), key);
+        if (c == 0) return 0;
+        if (c < 0) from = middle + 1;
+        else to = middle;
+        middle = (from + to) / 2;
+    }
+    memmove(sorted + from + 1, sorted + from, count - from);
+    sorted[from] = (uint8_t)i;
+    return 1;
+}
+
+static void move_block(uint8_t *store, size_t to, size_t from) { memcpy(store + to * BLOCK, store + from * BLOCK, BLOCK); }
+
+/* Fills place `to`, then the place that its block came from, and so on, up to a place past `kept` or one that block `end` belongs in: which that is. */
+static size_t move_on(uint8_t *store, uint8_t *sources, size_t kept, size_t to, size_t end) {
+    while (to < kept && sources[to] != end) {
+        size_t from = sources[to];
+        move_block(store, to, from);
+        sources[to] = (uint8_t)to;
+        to = from;
+    }
+    return to;
+}
+
+/* Puts block sources[i] in place i, for each i below `kept`. First the chains, each from a place whose block is not kept; what is left are cycles. */
+static void arrange(uint8_t *store, uint8_t *sources, size_t kept, const uint8_t *report) {
+    for (size_t i = 0; i < kept; i++)
+        if (report[i] != KEPT) move_on(store, sources, kept, i, MOST_BLOCKS);
+    for (size_t i = 0; i < kept; i++) {
+        if (sources[i] == i) continue;
+        uint8_t first[BLOCK];
+        memcpy(first, store + i * BLOCK, BLOCK);
+        size_t last = move_on(store, sources, kept, i, i);
+        memcpy(store + last * BLOCK, first, BLOCK);
+        sources[last] = (uint8_t)last;
+    }
+}
 
 /* ---- The device record: places of ACLs from byte 16, places of scopes from byte 80 of an ACL's */
 
@@ -1008,5 +1067,21 @@ uint32_t plain_find(const uint8_t *store, size_t store_len, const uint8_t *key, 
     if (!is_at(store, (size_t)used, i, k)) return 1;
     part[0] = i * BLOCK + 120;
     part[1] = value_len(store + i * BLOCK);
+    return 0;
+}
+
+uint32_t plain_rescue(uint8_t *store, size_t store_len, uint8_t *report, size_t report_len) {
+    if (!store_length_good(store_len)) return STORE_BAD;
+    if (report_len != store_len / BLOCK) return REPORT_BAD;
+    uint8_t sorted[MOST_BLOCKS];
+    size_t kept = 0;
+    for (size_t i = 0; i < report_len; i++) {
+        report[i] = found_alone(store + i * BLOCK);
+        if (report[i] != KEPT) continue;
+        if (insert(store, sorted, kept, i)) kept++;
+        else report[i] = KEY_TWICE;
+    }
+    arrange(store, sorted, kept, report);
+    memset(store + kept * BLOCK, 0, store_len - kept * BLOCK);
     return 0;
 }

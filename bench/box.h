@@ -1,6 +1,6 @@
 /* The box of document 01 in plain C, under the calls that Ridgeladle gives to hosts: the other side of comparisons, proved of nothing.
 
-   A refusal writes no lent byte. NULL with length 0 is fine for store, readings, input, key and out; no two lent ranges overlap. */
+   A refusal writes no lent byte. NULL with length 0 is fine for store, readings, input, key, out and report; no two lent ranges overlap. */
 #ifndef PLAIN_BOX_H
 #define PLAIN_BOX_H
 #include "sha1.h"
@@ -18,6 +18,9 @@ uint32_t plain_answer(uint8_t *store, size_t store_len, uint8_t *record, uint8_t
 
 /* 0 and part (place of the value in the store, its length); 1 not found; 2 store bad. */
 uint32_t plain_find(const uint8_t *store, size_t store_len, const uint8_t *key, size_t key_len, uint64_t *part);
+
+/* 0, or refusal 2 or 8. */
+uint32_t plain_rescue(uint8_t *store, size_t store_len, uint8_t *report, size_t report_len);
 
 /* Whether a command decodes: a part of plain_answer, for measuring alone. */
 int plain_decodes(const uint8_t *command, size_t command_len);

@@ -6,6 +6,7 @@ A call is named as in the header (include/ridgeladle.h), with what is lent to it
     format   store, record, key
     connect  connection, number, protected
     find     store, key
+    rescue   store, report
     sha1     text
     hmac     key, text
 
@@ -22,7 +23,8 @@ import types
 import model
 
 GIVEN = {"answer": ("store", "record", "connection", "readings", "input", "room"), "format": ("store", "record", "key"),
-         "connect": ("connection", "number", "protected"), "find": ("store", "key"), "sha1": ("text",), "hmac": ("key", "text")}
+         "connect": ("connection", "number", "protected"), "find": ("store", "key"), "rescue": ("store", "report"), "sha1": ("text",),
+         "hmac": ("key", "text")}
 
 # What stands in a buffer that the box may write, before the call: no byte like its neighbours, and nothing that a box would write.
 FILL = bytes((i * 151 + 90) % 251 + 1 for i in range(1 << 14))
@@ -113,6 +115,10 @@ class Model:
         return {"returned": {"found": 0, "not found": 1, "STORE_BAD": 2}[how], "store": call["store"], "key": call["key"],
                 "part": counted(place, len(value)) if how == "found" else FILL[:16]}
 
+    def rescue(self, call):
+        returned, store, report = self.module.rescue(call["store"], call["report"])
+        return {"returned": returned, "store": store, "report": report}
+
     def sha1(self, call):
         return {"returned": 0, "text": call["text"], "digest": hashlib.sha1(call["text"]).digest()}
 
@@ -167,8 +173,8 @@ class Library:
         pointer, size = ctypes.c_void_p, ctypes.c_size_t
         forms = {"answer": (ctypes.c_uint32, pointer, size, pointer, pointer, pointer, size, pointer, size, pointer, size, pointer),
                  "format": (ctypes.c_uint32, pointer, size, pointer, pointer, size), "connect": (None, pointer, ctypes.c_int64, ctypes.c_uint8),
-                 "find": (ctypes.c_uint32, pointer, size, pointer, size, pointer), "sha1": (ctypes.c_uint32, pointer, size, pointer),
-                 "hmac": (ctypes.c_uint32, pointer, size, pointer, size, pointer)}
+                 "find": (ctypes.c_uint32, pointer, size, pointer, size, pointer), "rescue": (ctypes.c_uint32, pointer, size, pointer, size),
+                 "sha1": (ctypes.c_uint32, pointer, size, pointer), "hmac": (ctypes.c_uint32, pointer, size, pointer, size, pointer)}
         self.calls, self.null, self.lent = types.SimpleNamespace(), False, {}
         for name, (returned, *taken) in forms.items():
             call = getattr(library, prefix + name)
@@ -209,6 +215,11 @@ class Library:
         store, key = call["store"], call["key"]
         returned = self.calls.find(self.lend("store", store), len(store), self.lend("key", key), len(key), self.lend("part", FILL[:16]))
         return self.after(returned, "store", "key", "part")
+
+    def rescue(self, call):
+        store, report = call["store"], call["report"]
+        returned = self.calls.rescue(self.lend("store", store), len(store), self.lend("report", report), len(report))
+        return self.after(returned, "store", "report")
 
     def sha1(self, call):
         returned = self.calls.sha1(self.lend("text", call["text"]), len(call["text"]), self.lend("digest", FILL[:20]))

@@ -1,5 +1,5 @@
-"""A model of the box, written from document 01, change request 1, their readings (docs/DECISIONS.md) and the layouts of the device record, the connection
-and the lent readings alone.
+"""A model of the box, written from document 01, change requests 1 and 6, their readings (docs/DECISIONS.md) and the layouts of the device record, the
+connection and the lent readings alone.
 
 Nothing here is taken from the Rattle code, so that the two can be held against each other. Store and device record are bytes, as the host lends them.
 The sections are document 01's. Numbers are signed.
@@ -16,7 +16,7 @@ TYPES = {"GET": 2, "PUT": 4, "DELETE": 6, "GETNEXT": 8, "GETPREVIOUS": 10, "GETK
 BUILT = {number: name for name, number in TYPES.items()}
 STATUS = {"SUCCESS": 1, "HMAC_FAILURE": 2, "NOT_AUTHORIZED": 3, "VERSION_FAILURE": 4, "HEADER_REQUIRED": 6, "NOT_FOUND": 7, "VERSION_MISMATCH": 8,
           "NO_SPACE": 14, "NO_SUCH_HMAC_ALGORITHM": 15, "INVALID_REQUEST": 16, "CONNECTION_TERMINATED": 20}
-REFUSALS = {"OUT_SHORT": 1, "STORE_BAD": 2, "DEVICE_BAD": 3, "CLOSED": 4, "MORE": 5, "KEY_BAD": 6, "READINGS_BAD": 7}
+REFUSALS = {"OUT_SHORT": 1, "STORE_BAD": 2, "DEVICE_BAD": 3, "CLOSED": 4, "MORE": 5, "KEY_BAD": 6, "READINGS_BAD": 7, "REPORT_BAD": 8}
 
 READ, WRITE, DELETE, RANGE, SETUP, GETLOG, SECURITY = 0, 1, 2, 3, 4, 7, 8
 PERMISSIONS = {0, 1, 2, 3, 4, 5, 7, 8, 9}
@@ -39,12 +39,17 @@ class Entry:
     value: bytes = b""
 
 
+def check_of(body):
+    """What bytes 508-511 hold of a block whose first 508 bytes these are."""
+    return sum(byte * (place + 1) for place, byte in enumerate(body)).to_bytes(4, "big")
+
+
 @functools.lru_cache(4096)
 def block_of(entry):
     head = bytes([1, len(entry.key), len(entry.version), len(entry.tag)]) + len(entry.value).to_bytes(2, "big") + bytes([entry.algorithm, 0])
     parts = entry.key.ljust(64, b"\0") + entry.version.ljust(16, b"\0") + entry.tag.ljust(32, b"\0") + entry.value.ljust(384, b"\0")
     body = head + parts + bytes(4)
-    return body + sum(byte * (place + 1) for place, byte in enumerate(body)).to_bytes(4, "big")
+    return body + check_of(body)
 
 
 @functools.lru_cache(4096)
@@ -61,11 +66,15 @@ def store_length_good(length):
     return length % BLOCK == 0 and 1 <= length // BLOCK <= MOST_BLOCKS
 
 
+def blocks_of(store):
+    return [bytes(store[at:at + BLOCK]) for at in range(0, len(store), BLOCK)]
+
+
 def entries_of(store):
     """The entries of a store, or None where its length or a block is wrong."""
     if not store_length_good(len(store)):
         return None
-    blocks = [bytes(store[at:at + BLOCK]) for at in range(0, len(store), BLOCK)]
+    blocks = blocks_of(store)
     while blocks and blocks[-1] == BLANK:
         blocks.pop()
     entries = [entry_of(block) for block in blocks]
@@ -76,6 +85,39 @@ def entries_of(store):
 
 def store_of(entries, length):
     return b"".join(block_of(e) for e in sorted(entries, key=lambda e: e.key)).ljust(length, b"\0")
+
+
+# ---- Rescue of a damaged store (change request 6)
+
+WAS_BLANK, KEPT, CHECK_WRONG, RULE_BROKEN, KEY_TWICE = range(5)
+
+
+@functools.lru_cache(4096)
+def found_alone(block):
+    """What a rescue reports of a block if no earlier one has its key."""
+    if block == BLANK:
+        return WAS_BLANK
+    if block[508:] != check_of(block[:508]):
+        return CHECK_WRONG
+    return RULE_BROKEN if entry_of(block) is None else KEPT
+
+
+def rescue(store, report):
+    """0 or a refusal's number, and store and report after it."""
+    if not store_length_good(len(store)):
+        return 2, store, report
+    blocks = blocks_of(store)
+    if len(report) != len(blocks):
+        return 8, store, report
+    found, kept = [], {}
+    for block in blocks:
+        how = found_alone(block)
+        if how == KEPT:
+            entry = entry_of(block)
+            how = KEY_TWICE if entry.key in kept else KEPT
+            kept.setdefault(entry.key, entry)
+        found.append(how)
+    return 0, store_of(kept.values(), len(store)), bytes(found)
 
 
 # ---- The device record (2,960 bytes) and the ACL rules

@@ -1,11 +1,12 @@
 #!/usr/bin/env python3
-"""mutants.py [--every] [--source FILE..] : shows that the kit catches wrong boxes.
+"""mutants.py [--every] [--only WORDS] [--source FILE..] : shows that the kit catches wrong boxes.
 
 Plants a fault at a time in the plain C box (bench/box.c, bench/sha1.c), builds it, and plays the kit's calls on it until it differs from the model. Prints
 where each was caught, and ends with 1 where one was not.
 
   --every     instead of the faults listed here: each number one more and one less, each comparison, each `&&`, `||` and `!` another, a fault at a time.
               Those that are not caught are to be read: a fault that changes nothing can't be caught.
+  --only WORDS  the faults whose names have these words
 """
 import argparse
 import collections
@@ -102,7 +103,7 @@ FAULTS = [
     ("the record before the store", "if (used < 0) return STORE_BAD;\n    if (!record_good(record)) return DEVICE_BAD;",
      "if (!record_good(record)) return DEVICE_BAD;\n    if (used < 0) return STORE_BAD;"),
     ("a reply buffer of 4,095", "out_len < PLAIN_ROOM", "out_len < PLAIN_ROOM - 1"),
-    ("a store of 129 blocks", "MOST_STORE = 128 * BLOCK", "MOST_STORE = 129 * BLOCK"),
+    ("a store of 129 blocks", "MOST_STORE = MOST_BLOCKS * BLOCK", "MOST_STORE = (MOST_BLOCKS + 1) * BLOCK"),
     ("a block's sum is not looked at", "sum(b) == be32(b + 508)", "1"),
     ("bytes after a value are not looked at", "zeros(b + 120 + n, 388 - n)", "zeros(b + 504, 4)"),
     ("byte 7 of a block is not looked at", "b[6] > 6 || b[7]", "b[6] > 6"),
@@ -252,6 +253,71 @@ FAULTS = [
     ("find gives the key's place", "part[0] = i * BLOCK + 120;", "part[0] = i * BLOCK + 8;"),
     ("find looks at the key first", "    int used = check(store, store_len);\n    if (used < 0) return 2;\n",
      "    if (key_len < 1 || key_len > 64) return 1;\n    int used = check(store, store_len);\n    if (used < 0) return 2;\n"),
+    # rescue
+    ("rescue judges the report's length first", "if (!store_length_good(store_len)) return STORE_BAD;\n    if (report_len != store_len / BLOCK) return REPORT_BAD;",
+     "if (report_len != store_len / BLOCK) return REPORT_BAD;\n    if (!store_length_good(store_len)) return STORE_BAD;"),
+    ("rescue takes a report of any length", "if (report_len != store_len / BLOCK) return REPORT_BAD;", "report_len = store_len / BLOCK;"),
+    ("rescue takes a longer report", "if (report_len != store_len / BLOCK) return REPORT_BAD;",
+     "if (report_len < store_len / BLOCK) return REPORT_BAD;\n    report_len = store_len / BLOCK;"),
+    ("rescue looks at the low byte of the report's length", "if (report_len != store_len / BLOCK) return REPORT_BAD;",
+     "report_len &= 255;\n    if (report_len != store_len / BLOCK) return REPORT_BAD;"),
+    ("rescue clears a report of a wrong length", "if (report_len != store_len / BLOCK) return REPORT_BAD;",
+     "if (report_len != store_len / BLOCK) {\n        memset(report, 0, report_len);\n        return REPORT_BAD;\n    }"),
+    ("rescue clears the report of a store of a wrong length", "return STORE_BAD;\n    if (report_len != store_len / BLOCK)",
+     "{\n        memset(report, 0, report_len);\n        return STORE_BAD;\n    }\n    if (report_len != store_len / BLOCK)"),
+    ("rescue refuses a block rule with 2", "return STORE_BAD;\n    if (report_len != store_len / BLOCK)",
+     "return STORE_BAD;\n    if (report_len && store[0] > 1) return STORE_BAD;\n    if (report_len != store_len / BLOCK)"),
+    ("rescue keeps the later of equal keys", "for (size_t i = 0; i < report_len; i++) {", "for (size_t i = report_len; i-- > 0;) {"),
+    ("rescue keeps neither of equal keys", "if (c == 0) return 0;\n        if (c < 0) from",
+     "if (c == 0) {\n            memset((uint8_t *)store + sorted[middle] * BLOCK, 0, BLOCK);\n            return 0;\n        }\n        if (c < 0) from"),
+    ("rescue keeps both of equal keys", "if (c == 0) return 0;\n        if (c < 0) from", "if (c <= 0) from"),
+    ("rescue takes a prefix for an equal key", "int c = order(key_at(store, sorted[middle]), key);",
+     "bytes other = key_at(store, sorted[middle]);\n        int c = memcmp(other.at, key.at, other.n < key.n ? other.n : key.n);"),
+    ("rescue compares keys with what fills them", "int c = order(key_at(store, sorted[middle]), key);",
+     "int c = memcmp(key_at(store, sorted[middle]).at, key.at, 64);"),
+    ("rescue leaves the bytes of a blanked block", "memset(store + kept * BLOCK, 0, store_len - kept * BLOCK);",
+     "for (size_t i = kept; i < report_len; i++) store[i * BLOCK] = 0;"),
+    ("rescue leaves the last block as it was", "memset(store + kept * BLOCK, 0, store_len - kept * BLOCK);",
+     "if (kept < report_len) memset(store + kept * BLOCK, 0, store_len - kept * BLOCK - BLOCK);"),
+    ("rescue blanks a block too many", "memset(store + kept * BLOCK, 0, store_len - kept * BLOCK);",
+     "kept -= kept == report_len;\n    memset(store + kept * BLOCK, 0, store_len - kept * BLOCK);"),
+    ("rescue judges other rules before the check", "if (!sum_good(b)) return CHECK_WRONG;\n    return parts_good(b) ? KEPT : RULE_BROKEN;",
+     "if (!parts_good(b)) return RULE_BROKEN;\n    return sum_good(b) ? KEPT : CHECK_WRONG;"),
+    ("rescue takes a block with byte 0 zero for blank", "if (b[0] == 0 && zeros(b, BLOCK)) return WAS_BLANK;", "if (b[0] == 0) return WAS_BLANK;"),
+    ("rescue takes a block for blank whose check alone is not zero", "if (b[0] == 0 && zeros(b, BLOCK)) return WAS_BLANK;",
+     "if (b[0] == 0 && zeros(b, 508)) return WAS_BLANK;"),
+    ("rescue reports blank blocks as broken", "if (b[0] == 0 && zeros(b, BLOCK)) return WAS_BLANK;", ""),
+    ("rescue reports a key twice before another rule", "        if (report[i] != KEPT) continue;\n",
+     "        for (size_t j = 0; j < kept; j++)\n            if (report[i] == RULE_BROKEN && order(key_at(store, sorted[j]), key_at(store, i)) == 0) report[i] = KEY_TWICE;\n"
+     "        if (report[i] != KEPT) continue;\n"),
+    ("rescue reports a key twice before a wrong check", "        if (report[i] != KEPT) continue;\n",
+     "        for (size_t j = 0; j < kept; j++)\n            if (report[i] == CHECK_WRONG && order(key_at(store, sorted[j]), key_at(store, i)) == 0) report[i] = KEY_TWICE;\n"
+     "        if (report[i] != KEPT) continue;\n"),
+    ("rescue reports the key of a damaged block as twice", "        if (insert(store, sorted, kept, i)) kept++;\n",
+     "        for (size_t j = 0; j < i; j++)\n            if (report[j] == CHECK_WRONG && order(key_at(store, j), key_at(store, i)) == 0) report[i] = KEY_TWICE;\n"
+     "        if (report[i] == KEY_TWICE) continue;\n        if (insert(store, sorted, kept, i)) kept++;\n"),
+    ("rescue reports the key of a broken block as twice", "        if (insert(store, sorted, kept, i)) kept++;\n",
+     "        for (size_t j = 0; j < i; j++)\n            if (report[j] == RULE_BROKEN && order(key_at(store, j), key_at(store, i)) == 0) report[i] = KEY_TWICE;\n"
+     "        if (report[i] == KEY_TWICE) continue;\n        if (insert(store, sorted, kept, i)) kept++;\n"),
+    ("rescue reports by new place", "    arrange(store, sorted, kept, report);\n",
+     "    arrange(store, sorted, kept, report);\n    memset(report, KEPT, kept);\n    memset(report + kept, WAS_BLANK, report_len - kept);\n"),
+    ("rescue leaves the report of blank blocks", "report[i] = found_alone(store + i * BLOCK);",
+     "if (found_alone(store + i * BLOCK) || report[i] == KEPT) report[i] = found_alone(store + i * BLOCK);"),
+    ("rescue leaves the report of a store that is good", "    uint8_t sorted[MOST_BLOCKS];\n", "    if (check(store, store_len) >= 0) return 0;\n    uint8_t sorted[MOST_BLOCKS];\n"),
+    ("rescue drops blocks out of order", "    size_t from = 0, to = count, middle = count - 1;\n",
+     "    size_t from = 0, to = count, middle = count - 1;\n    if (count && order(key_at(store, sorted[count - 1]), key) > 0) return 0;\n"),
+    ("rescue drops blocks after a blank one", "        if (report[i] != KEPT) continue;\n",
+     "        if (i && report[i] == KEPT && report[i - 1] == WAS_BLANK) report[i] = RULE_BROKEN;\n        if (report[i] != KEPT) continue;\n"),
+    ("rescue moves blocks over each other", "    arrange(store, sorted, kept, report);\n", "    for (size_t i = 0; i < kept; i++) move_block(store, i, sorted[i]);\n"),
+    ("rescue loses the first block of a cycle", "        memcpy(store + last * BLOCK, first, BLOCK);\n", ""),
+    ("rescue loses the last block while sorting", "if (insert(store, sorted, kept, i)) kept++;", "if (insert(store, sorted, kept, i)) kept += i + 1 < report_len;"),
+    ("rescue loses what an insertion moves", "memmove(sorted + from + 1, sorted + from, count - from);", "if (from < count) sorted[count] = sorted[from];"),
+    ("rescue returns the number of kept blocks", "memset(store + kept * BLOCK, 0, store_len - kept * BLOCK);\n    return 0;",
+     "memset(store + kept * BLOCK, 0, store_len - kept * BLOCK);\n    return (uint32_t)kept;"),
+    ("rescue reads a byte after the report", "if (report_len != store_len / BLOCK) return REPORT_BAD;",
+     "if (report_len != store_len / BLOCK || ((volatile uint8_t *)report)[report_len] & 0) return REPORT_BAD;"),
+    ("rescue writes a byte before the report", "    size_t kept = 0;\n", "    size_t kept = 0;\n    report[-1] = 0;\n"),
+    ("rescue stops at 127 blocks", "for (size_t i = 0; i < report_len; i++) {", "for (size_t i = 0; i < report_len && i < 127; i++) {"),
 ]
 
 NUMBER = r"(?<![\w.])(0x[0-9a-f]+|\d+)(u?)(?![\w.])"
@@ -328,6 +394,7 @@ def edits(sources):
 def main():
     p = argparse.ArgumentParser(usage=__doc__)
     p.add_argument("--every", action="store_true")
+    p.add_argument("--only", default="")
     p.add_argument("--source", nargs="+", type=pathlib.Path, default=[TOP / "bench" / "box.c", TOP / "bench" / "sha1.c"])
     p.add_argument("--slice", default="0/1", help=argparse.SUPPRESS)
     given = p.parse_args()
@@ -338,7 +405,7 @@ def main():
     tried = list(edits(given.source)) if not given.every else [(source, *edit) for source in given.source for edit in every(source.read_text())]
     first, step = map(int, given.slice.split("/"))
     counts = collections.Counter()
-    for source, where, name, text in tried[first::step]:
+    for source, where, name, text in [edit for edit in tried if given.only in edit[2]][first::step]:
         library = build(given.source, source, text, f"mutant{first}")
         how = "doesn't compile" if library is None else caught(library, made)
         kind = "not caught" if how is None else "doesn't compile" if library is None else "ended the process" if isinstance(how, str) else f"caught by {made[how][0]}"

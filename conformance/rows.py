@@ -99,12 +99,13 @@ def success(**more):
 OK, UNDECODED, UNREAD, UNSIGNED, UNBUILT, INVALID = Says(1, 10), Says(16, 3), Says(20, 1), Says(2, 2), Says(16, 7), Says(16, 8)
 HEADERLESS, OTHER_CLUSTER, OUT_OF_TURN, UNKNOWN_HMAC, FORBIDDEN = Says(6, 4), Says(4, 5), Says(16, 6), Says(15, 8), Says(3, 9)
 NOT_FOUND, MISMATCH, NO_SPACE = Says(7, 10), Says(8, 10), Says(14, 10)
-OUT_SHORT, STORE_BAD, DEVICE_BAD, CLOSED, MORE, KEY_BAD, READINGS_BAD = map(Refusal, (1, 2, 3, 4, 5, 6, 7))
+OUT_SHORT, STORE_BAD, DEVICE_BAD, CLOSED, MORE, KEY_BAD, READINGS_BAD, REPORT_BAD = map(Refusal, (1, 2, 3, 4, 5, 6, 7, 8))
 
 
 @dataclasses.dataclass(frozen=True)
 class Row:
-    """`steps`: requests, bytes or calls, each with what is wanted of it (None: only what the model says). `start`: what is lent to the first."""
+    """`steps`: requests, bytes, calls, or functions that make a call of the state, each with what is wanted of it (None: only what the model says).
+    `start`: what is lent to the first."""
     sentence: str
     what: str
     start: dict
@@ -114,7 +115,7 @@ class Row:
         """Gives each call with what is to be held of it, and takes what there is after it: the state of the next."""
         state = self.start
         for given, wanted in self.steps:
-            call = given if isinstance(given, Call) else answer_call(given, **state)
+            call = given if isinstance(given, Call) else given(state) if callable(given) else answer_call(given, **state)
             after = yield call, (lambda after, call=call, wanted=wanted, given=given: held(call, wanted, given, after))
             state = {**state, **{what: after[what] for what in ("store", "record", "connection") if what in after}}
 

@@ -156,6 +156,8 @@ class Work:
             self.count(part, index, step, call, after)
 
     def count(self, part, index, step, call, after):
+        if call.name == "rescue":
+            self.codes.update([("rescue", after["returned"])] + [("report", byte) for byte in after["report"] if after["returned"] == 0])
         if call.name != "answer":
             return
         if after["returned"]:
@@ -178,12 +180,14 @@ class Work:
         self.replies = {}
 
     def gaps(self):
-        """What the table of boundaries must have met: each refusal, and each operation with each code that document 01 can give it."""
+        """What the table of boundaries must have met: each refusal, each operation with each code that document 01 can give it, and each byte that a
+        rescue reports."""
         wanted = {("refusal", n) for n in (1, 2, 3, 4, 5, 7)} | {("none", code) for code in (2, 4, 6, 16, 20)}
         for name in model.TYPES:
             wanted |= {(name, code) for code in (1, 4, 6, 16)} | ({(name, 3)} if name in model.NEEDED else set())
         wanted |= {(name, 7) for name in ("GET", "GETVERSION", "GETNEXT", "GETPREVIOUS", "DELETE", "GETLOG")}
         wanted |= {("PUT", 8), ("DELETE", 8), ("PUT", 14), ("SECURITY", 15)}
+        wanted |= {("rescue", n) for n in (0, 2, 8)} | {("report", byte) for byte in range(5)}
         return sorted(f"{name} {code}" for name, code in wanted - set(self.codes))
 
 
@@ -345,7 +349,7 @@ def wanted_shown(wanted):
         return f"refusal {wanted.number} {shown.REFUSALS[wanted.number]}"
     if isinstance(wanted, rows.Says):
         return f"{shown.CODES[wanted.code]} ({wanted.code})" + (f" at step {wanted.step}" if wanted.code != 1 else "")
-    return "as the model says" if wanted is None else f"returned {wanted}" if isinstance(wanted, int) else "as published"
+    return "as the model says" if wanted is None else f"returned {wanted}" if isinstance(wanted, int) else wanted.__doc__ or "as published"
 
 
 def arguments():

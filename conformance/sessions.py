@@ -1,10 +1,10 @@
 """Seeded random calls. Each function plays one session: it gives calls, each with what is to be held of the box's own answers, and takes what there is
 after a call by document 01, from which it goes on. A session is drawn from its generator of random numbers alone, so that it can be played again.
 
-    sessions   several connections and identities, all operations, mostly good, so that state builds up
+    sessions   several connections and identities, all operations, mostly good, so that state builds up; the store damaged and rescued from time to time
     damaged    the same with messages damaged: bits turned, bytes cut, put in, moved; with and without signing again
     unknown    the same with unlisted fields put in at every depth: the box answers as it does without; in the security part, INVALID_REQUEST
-    calls      format, connect, find, sha1 and hmac
+    calls      format, connect, find, rescue, sha1 and hmac
 """
 import dataclasses
 
@@ -316,6 +316,13 @@ def sessions(r):
         if r.random() < .03:
             yield site.call(n, data[:r.randrange(len(data) + 1)]), nothing_more
         site.went(n, after)
+        if r.random() < .05:
+            yield from damaged_and_rescued(site, n)
+
+
+def sealed(block):
+    """A block with its check made right."""
+    return bytes(block[:508]) + model.check_of(block[:508])
 
 
 def spoilt(site, n, data):
@@ -333,12 +340,69 @@ def spoilt(site, n, data):
     if what == "store" and r.random() < .6:  # the sums made right again, so that the other rules are met
         for at in range(0, len(changed) - 511, 512):
             if changed[at]:
-                changed[at + 508:at + 512] = sum(byte * (place + 1) for place, byte in enumerate(changed[at:at + 508])).to_bytes(4, "big")
+                changed[at:at + 512] = sealed(changed[at:at + 512])
     if what == "store" and r.random() < .1:
         changed = changed[:r.randrange(len(changed))]
     if what == "readings" and r.random() < .3:
         changed = (changed + changed)[:r.choice((0, 1, 112, 133, 135, 156, 268))]
     yield call.changed(**{what: bytes(changed)}), nothing_more
+
+
+# ---- Rescue
+
+def worse(site, store):
+    """A store with something done to its blocks: bytes changed with and without the check made right, blocks blanked, doubled, moved, other entries of
+    their keys."""
+    r, blocks = site.r, model.blocks_of(store)
+    for _ in range(r.choice((1, 1, 2, 4, len(blocks)))):
+        n, m, how = r.randrange(len(blocks)), r.randrange(len(blocks)), r.choice(("byte", "byte", "sealed", "sealed", "blank", "twice", "key", "swap", "all"))
+        if how in ("byte", "sealed"):
+            changed = bytearray(blocks[n])
+            changed[r.choice((*range(9), 71, 72, 88, 120, 503, 504, 507, 508, 511, r.randrange(512)))] ^= 1 << r.randrange(8)
+            blocks[n] = bytes(changed) if how == "byte" else sealed(changed)
+        elif how == "blank":
+            blocks[n] = model.BLANK
+        elif how == "twice":
+            blocks[n] = blocks[m]
+        elif how == "key":
+            entry = model.entry_of(blocks[m])
+            blocks[n] = model.block_of(site.entry(entry.key if entry else r.choice(site.keys)))
+        elif how == "swap":
+            blocks[n], blocks[m] = blocks[m], blocks[n]
+        else:
+            r.shuffle(blocks)
+    return b"".join(blocks)
+
+
+def rescue_call(r, store):
+    """Mostly with a report of the right length."""
+    blocks = len(store) // model.BLOCK
+    length = blocks if r.random() < .9 else r.choice((0, 1, max(blocks - 1, 0), blocks + 1, blocks + 256, len(store) % 600))
+    return Call("rescue", r.random() < .5, store=store, report=r.randbytes(length))
+
+
+def rescued_well(got):
+    """The store is one that every call takes, with as many entries as are reported kept."""
+    if got["returned"] != 0:
+        return None
+    entries, kept = model.entries_of(got["store"]), got["report"].count(model.KEPT)
+    return None if entries is not None and len(entries) == kept else f"{kept} are reported kept, the store has {entries and len(entries)}"
+
+
+def damaged_and_rescued(site, n):
+    """The store is damaged, an answer mostly refused, the store rescued, once more, and it goes on with what is left."""
+    r = site.r
+    site.store = worse(site, site.store)
+    data = site.request(site.connections[n]).bytes()
+    yield site.call(n, data), nothing_more
+    after = yield rescue_call(r, site.store), rescued_well
+    if after["returned"]:
+        after = yield Call("rescue", store=site.store, report=bytes(len(site.store) // model.BLOCK)), rescued_well
+    site.store = after["store"]
+    if r.random() < .3:
+        yield rescue_call(r, site.store), rescued_well
+    after = yield site.call(n, data), nothing_more
+    site.went(n, after)
 
 
 def damage(r, data):
@@ -507,6 +571,11 @@ def calls(r):
         spoiled = bytearray(site.store)
         spoiled[r.randrange(len(spoiled))] ^= 1 << r.randrange(8)
         yield Call("find", store=bytes(spoiled), key=key), nothing_more
+    for _ in range(4):
+        store = worse(site, site.store)
+        yield rescue_call(r, store), rescued_well
+        if r.random() < .1:
+            yield rescue_call(r, store[:r.randrange(len(store))] if r.random() < .5 else store + bytes(r.choice((1, 511, 65536)))), rescued_well
     text = r.randbytes(r.choice((r.randrange(300), r.randrange(300), r.randrange(5000))))
     yield Call("sha1", text=text), nothing_more
     yield Call("hmac", r.random() < .5, key=r.randbytes(r.choice((0, 1, 20, 63, 64, 65, 100, 127, 128, 129, 200))), text=text), nothing_more

@@ -33,12 +33,27 @@ def store_lines(store):
     entries = model.entries_of(store)
     if entries is None:
         yield f"store: {len(store)} bytes that break a rule"
+        yield from block_lines(store)
         return
     yield f"store: {len(store) // 512} blocks, {len(entries)} used"
     for entry in entries[:12]:
         yield f"  {text(entry.key)} version {text(entry.version)} tag {text(entry.tag)} algorithm {entry.algorithm} value {text(entry.value)}"
     if len(entries) > 12:
         yield "  .."
+
+
+FOUND = {model.WAS_BLANK: "blank", model.CHECK_WRONG: "check wrong", model.RULE_BROKEN: "a rule broken, check right", model.KEY_TWICE: "key of an earlier one"}
+
+
+def block_lines(store):
+    """Each block of a store of a right length that breaks a rule, up to the first 12."""
+    refusal, _, found = model.rescue(store, bytes(len(store) // model.BLOCK))
+    for n, (block, how) in enumerate(zip(model.blocks_of(store), found if refusal == 0 else b"")):
+        if n == 12:
+            yield "  .."
+            return
+        entry = model.entry_of(block)
+        yield f"  block {n}: {', '.join(filter(None, (FOUND.get(how), entry and text(entry.key))))}"
 
 
 def record_lines(record):
@@ -97,7 +112,8 @@ def after_line(call, after):
     if isinstance(after, str):
         return after
     if call.name != "answer":
-        return f"returned {after['returned']}" + "".join(f", {what} {text(after[what])}" for what in ("digest", "part", "connection") if what in after)
+        told = [what for what in ("digest", "part", "connection", "report") if what in after]
+        return f"returned {after['returned']}" + "".join(f", {what} {text(after[what])}" for what in told)
     if after["returned"]:
         return f"refusal {after['returned']} {REFUSALS.get(after['returned'], '')}"
     reply, taken = reply_of(after)

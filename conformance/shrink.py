@@ -75,6 +75,8 @@ def plainer(call):
     for what in "key", "text":
         if what in call.given:
             yield from (call.changed(**{what: data}) for data in shorter(call[what]))
+    if any(call.given.get("report", b"")):
+        yield call.changed(report=bytes(len(call["report"])))
     if "connection" in call.given and call.name == "answer":
         its = model.connection_of(call["connection"])
         for last, protected in (None, False), (its.last, False), (None, its.protected), (its.last, its.protected):
@@ -84,27 +86,51 @@ def plainer(call):
                 yield call.changed(connection=data)
 
 
+def with_store(call, store):
+    """The call with a store that is not longer; a report of a byte for each block stays one."""
+    report = call.given.get("report")
+    if report is None or len(report) * model.BLOCK != len(call["store"]):
+        return call.changed(store=store)
+    return call.changed(store=store, report=report[:len(store) // model.BLOCK])
+
+
+def plain_entries(entry):
+    """Entries of the same key with less in them."""
+    some = (model.Entry(entry.key), model.Entry(entry.key, entry.version),
+            model.Entry(entry.key, entry.version, entry.tag, entry.algorithm, entry.value[:1]))
+    return [plain for plain in some if plain != entry]
+
+
+def bad_stores(store):
+    """Stores smaller than one that breaks a rule: blocks left out, blanked, or with less in them."""
+    for at in range(0, len(store), model.BLOCK):
+        before, block, rest = store[:at], store[at:at + model.BLOCK], store[at + model.BLOCK:]
+        entry = model.entry_of(block) if len(block) == model.BLOCK else None
+        if before or rest:
+            yield before + rest
+        if any(block):
+            yield before + bytes(len(block)) + rest
+        yield from (before + model.block_of(plain) + rest for plain in (plain_entries(entry) if entry else []))
+
+
+def good_stores(store, entries):
+    blank = len(store) // model.BLOCK - len(entries)
+    for count in {0, 1, blank - 1} & set(range(blank)):
+        if entries or count:
+            yield model.store_of(entries, (len(entries) + count) * model.BLOCK)
+    for size in (len(entries) // 2, 1):
+        for at in range(0, len(entries) if size else 0, size or 1):
+            yield model.store_of(entries[:at] + entries[at + size:], len(store))
+    for n, entry in enumerate(entries):
+        yield from (model.store_of(entries[:n] + [plain] + entries[n + 1:], len(store)) for plain in plain_entries(entry))
+
+
 def stores(call):
     store = call.given.get("store")
     if store is None:
         return
     entries = model.entries_of(store)
-    if entries is None:
-        yield from (call.changed(store=store[:at] + store[at + 512:]) for at in range(0, len(store), 512) if len(store) > 512)
-        yield from (call.changed(store=store[:at] + bytes(512) + store[at + 512:]) for at in range(0, len(store), 512) if any(store[at:at + 512]))
-        return
-    blank = len(store) // 512 - len(entries)
-    for count in {0, 1, blank - 1} & set(range(blank)):
-        if entries or count:
-            yield call.changed(store=model.store_of(entries, (len(entries) + count) * 512))
-    for size in (len(entries) // 2, 1):
-        for at in range(0, len(entries) if size else 0, size or 1):
-            yield call.changed(store=model.store_of(entries[:at] + entries[at + size:], len(store)))
-    for n, entry in enumerate(entries):
-        for plain in (model.Entry(entry.key), model.Entry(entry.key, entry.version),
-                      model.Entry(entry.key, entry.version, entry.tag, entry.algorithm, entry.value[:1])):
-            if plain != entry:
-                yield call.changed(store=model.store_of(entries[:n] + [plain] + entries[n + 1:], len(store)))
+    yield from (with_store(call, other) for other in (bad_stores(store) if entries is None else good_stores(store, entries)))
 
 
 def records(call):

@@ -39,7 +39,17 @@ enum {
     RIDGELADLE_CLOSED = 4,     /* this connection was closed */
     RIDGELADLE_MORE = 5,       /* the input, possibly empty, is a proper start of a frame: call again with more behind it */
     RIDGELADLE_KEY_BAD = 6,    /* format only: key not 1 to 64 bytes */
-    RIDGELADLE_READINGS_BAD = 7 /* readings not 134 bytes, over four temperatures or two utilizations, or a name not 1 to 16 bytes */
+    RIDGELADLE_READINGS_BAD = 7, /* readings not 134 bytes, over four temperatures or two utilizations, or a name not 1 to 16 bytes */
+    RIDGELADLE_REPORT_BAD = 8  /* rescue only: report not one byte for each block */
+};
+
+/* What a rescue reports of a block: the first of 0, 2, 3 and 4 that applies, else 1. */
+enum {
+    RIDGELADLE_BLOCK_BLANK = 0,       /* 512 zero bytes */
+    RIDGELADLE_BLOCK_KEPT = 1,        /* meets every block rule but order */
+    RIDGELADLE_BLOCK_CHECK_WRONG = 2, /* bytes 508-511 are not its sum, whatever else is wrong */
+    RIDGELADLE_BLOCK_RULE_BROKEN = 3, /* its sum is right, another block rule is broken */
+    RIDGELADLE_BLOCK_KEY_TWICE = 4    /* it meets the rules, but a kept block before it has its key */
 };
 
 /* Numbers in lent bytes are big-endian, identities, connection numbers and sequences 64-bit two's complement.
@@ -84,6 +94,13 @@ uint32_t ridgeladle_answer(uint8_t *store, size_t store_len, uint8_t *record, ui
    Or 2, STORE_BAD, judged first. part is written only where found. */
 uint32_t ridgeladle_find(const uint8_t *store, size_t store_len, const uint8_t *key, size_t key_len,
                          uint64_t *part /* [2]: offset, length */);
+
+/* Rescue of a damaged store: the blocks that meet every block rule but order are kept, of equal keys the one that stood first; all others
+   are blanked. report_len is the number of blocks, store_len / 512.
+   0 done: the kept blocks stand first in the store, as they were, byte for byte, their keys ascending; every byte after them is zero. So
+   every call takes the store from here on. Every byte of the report is written: byte i is what was found of block i as the store was lent.
+   Old contents of the report do not matter. Or STORE_BAD, for the store's length alone, else REPORT_BAD. */
+uint32_t ridgeladle_rescue(uint8_t *store, size_t store_len, uint8_t *report, size_t report_len);
 
 /* SHA-1 (FIPS 180-4). 0 and the 20 bytes of the digest; or 1 for a text of 2^60 bytes or more, and nothing is written. */
 uint32_t ridgeladle_sha1(const uint8_t *text, size_t text_len, uint8_t *digest);

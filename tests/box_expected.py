@@ -1,5 +1,5 @@
 #!/usr/bin/env python3
-"""The lines that examples/box.c must print, from document 01 and change request 1 alone: W1, W2 and "Replies", with Python's hmac."""
+"""The lines that examples/box.c must print, from document 01 and change requests 1 and 6 alone: W1, W2 and "Replies", with Python's hmac."""
 import hashlib
 import hmac
 
@@ -14,26 +14,50 @@ LOG = bytes.fromhex("0A 06 18 01 30 03 38 17" "12 32 32 30"
                     "12 0A 0A 03 45 4E 30 15 00 00 80 3E" "1A 0A 0A 03 48 44 41 15 00 00 12 42" "1A 0C 0A 05 62 6F 61 72 64 15 00 00 14 42"
                     "22 08 20 80 20 2D 00 00 00 00" "1A 02 08 01")
 
+# Key timer1 or timer2 in a keyValue, in a body; PUT's reply has an empty keyValue. SUCCESS.
+TIMER1 = bytes.fromhex("12 0A 0A 08 1A 06 74 69 6D 65 72 31")
+TIMER2 = bytes.fromhex("12 0A 0A 08 1A 06 74 69 6D 65 72 32")
+PUT_BODY, SUCCESS = bytes.fromhex("12 02 0A 00"), bytes.fromhex("1A 02 08 01")
 
-def framed(command):
-    """Message 4 = 1, HMACauth with identity 1, 7; in a frame with no value part."""
+
+def framed(command, value=b""):
+    """Message 4 = 1, HMACauth with identity 1, 7; in a frame with the value part."""
     digest = hmac.new(KEY, command, hashlib.sha1).digest()
     auth = b"\x08\x01\x12\x14" + digest
     message = b"\x20\x01\x2a" + bytes([len(auth)]) + auth + b"\x3a" + bytes([len(command)]) + command
-    return b"F" + len(message).to_bytes(4, "big") + bytes(4) + message
+    return b"F" + len(message).to_bytes(4, "big") + len(value).to_bytes(4, "big") + message + value
 
 
 def show(name, data):
     print(name, data.hex(" ").upper())
 
 
-def answered(taken, reply):
+def counted(taken, reply):
     print(f"answer 0, taken {taken}, written {len(reply)}")
+
+
+def answered(taken, reply):
+    counted(taken, reply)
     show("reply", reply)
 
 
 def connection(closed, seen, last):
     show("connection", (1).to_bytes(8, "big") + bytes([0, closed, seen]) + bytes(5) + last.to_bytes(8, "big") + bytes(8))
+
+
+def header(field, sequence, kind):
+    """Connection 1, the sequence (field 4 of a request, 6 of a reply), messageType."""
+    return bytes([0x0A, 6, 0x18, 1, field * 8, sequence, 0x38, kind])
+
+
+def rescue():
+    """Two PUTs (type 4, reply 3); the first of eight blocks is damaged; a GET (2, reply 1) gives the second."""
+    for sequence, body, value in (1, TIMER1, b"12.07 s"), (2, TIMER2, b"11.93 s"):
+        counted(len(framed(header(4, sequence, 4) + body, value)), framed(header(6, sequence, 3) + PUT_BODY + SUCCESS))
+    print("answer 2\nfind 2\nrescue 8\nrescue 0")
+    show("report", bytes([2, 1, 0, 0, 0, 0, 0, 0]))
+    answered(len(framed(header(4, 3, 2) + TIMER2)), framed(header(6, 3, 1) + TIMER2 + SUCCESS, b"11.93 s"))
+    print("find 0, 11.93 s")
 
 
 def main():
@@ -55,6 +79,7 @@ def main():
     connection(1, 1, 3)
     print("answer 4")
     print("find 1")
+    rescue()
 
 
 if __name__ == "__main__":

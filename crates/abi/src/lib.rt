@@ -10,7 +10,8 @@ ghost use Rattle.signature.specs.Hmac.{hmacAnswer};
 ghost use Rattle.signature_export.specs.Written.{Written};
 ghost use Rattle.protocol.specs.Format.{Told};
 ghost use Rattle.connection_bytes.specs.Layout.{connectedBytes};
-ghost use Rattle.host_calls.specs.Find.{Find};
+ghost use Rattle.rescue.specs.Rescue.{outcome, rescueOf};
+ghost use Rattle.store_calls.specs.Find.{Find};
 ghost use Rattle.abi.specs.Calls.{left, answerCall};
 
 // 0 made; or refusal 2 or 6, and nothing is written.
@@ -52,7 +53,15 @@ pub extern "C" fn ridgeladle_answer(
 pub extern "C" fn ridgeladle_find(store: &[u8], key: &[u8], part: &mut [u64; 2]) -> u32
     ensures { λ r. ⌜ Find (now (store .entry)) (now (key .entry)) (now (part .entry)) r (now (part .exit)) ⌝ }
 {
-    host_calls::find(store, key, part)
+    store_calls::find(store, key, part)
+}
+
+// 0 done, and every byte of store and report is written; or refusal 2 or 8, and nothing is written.
+#[no_mangle]
+pub extern "C" fn ridgeladle_rescue(store: &mut [u8], report: &mut [u8]) -> u32
+    ensures { λ n. ⌜ outcome n (now (store .exit)) (now (report .exit)) ≡ rescueOf (now (store .entry)) (now (report .entry)) ⌝ }
+{
+    store_calls::rescue(store, report)
 }
 
 // 0 and the digest; or 1 for a text of 2^60 bytes or more, and nothing is written.

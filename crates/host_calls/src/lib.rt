@@ -1,8 +1,7 @@
-// What the calls for C have to say but the answering one, and what becomes of its response: numbers, counts, and bytes of the connection.
+// What Format and Connect say to C, and what becomes of the answering call's response: numbers, counts, and bytes of the connection.
 use access::Record;
 use connection_bytes::Bytes;
 use formatting::Formatted;
-use local::Local;
 use responses::Response;
 ghost use mathlib.Core.Path.{_≡_};
 ghost use mathlib.Core.Bool.{not};
@@ -10,7 +9,6 @@ ghost use lib.Dec.{eqb};
 ghost use Rattle.integers.specs.Signed.{wordOf};
 ghost use Rattle.protocol.specs.Format.{Told};
 ghost use Rattle.connection_bytes.specs.Layout.{connectedBytes};
-ghost use Rattle.host_calls.specs.Find.{Find};
 ghost use Rattle.host_calls.specs.Notes.{noted, notes};
 
 // 0 made; or refusal 2 or 6, and nothing is written.
@@ -51,19 +49,5 @@ pub fn note(connection: &mut Bytes, counts: &mut [u64; 2], r: Response) -> u32
             connection_bytes::update(connection, after);
             0
         }
-    }
-}
-
-// 0 found, and part is the value's offset in the store and its length; or 1 not found, or refusal 2, and nothing is written.
-pub fn find(store: &[u8], key: &[u8], part: &mut [u64; 2]) -> u32
-    ensures { λ r. ⌜ Find (now (store .entry)) (now (key .entry)) (now (part .entry)) r (now (part .exit)) ⌝ }
-{
-    match local::local_find(store, key) {
-        Local::Value { start, len } => {
-            *part = [start as u64, len as u64];
-            0
-        }
-        Local::NotFound => 1,
-        Local::StoreBad => 2,
     }
 }

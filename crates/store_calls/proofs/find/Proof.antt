@@ -2,10 +2,10 @@ use denote.Ref.{now}
 use mathlib.Core.Path.{refl}
 use Rattle.local.specs.Local.{notFound, storeBad}
 use Rattle.local.specs.declared.Local.the-variants.{NotFound, StoreBad}
-use Rattle.host_calls.proofs.Steps.{find-value, find-none}
+use Rattle.store_calls.proofs.Steps.{find-value, find-none}
 use borrow.Author.Needs.{needs}
-use Rattle.host_calls.proofs.find.Statement.{statement}
-use Rattle.host_calls.proofs.find.Tie as tie
+use Rattle.store_calls.proofs.find.Statement.{statement}
+use Rattle.store_calls.proofs.find.Tie as tie
 
 local-find-requires : tie.Need-local-find-requires
 local-find-requires c κs = search needs
