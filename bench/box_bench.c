@@ -2,10 +2,10 @@
 
    Each call starts from the same connection and leaves store and record as they were: the PUT writes what is there already. */
 #include "client.h"
+#include "clock.h"
 #include <openssl/evp.h>
 #include <openssl/hmac.h>
 #include <stdio.h>
-#include <time.h>
 
 #ifdef PLAIN_TWICE /* the plain box on both sides, to try this program */
 #define ridgeladle_answer plain_answer
@@ -151,12 +151,6 @@ static void once(int what, int plain, const call *m) {
         HMAC(EVP_sha1(), key, KEY, m->told.at, m->told.n, digest, NULL);
         HMAC(EVP_sha1(), key, KEY, m->replied.at, m->replied.n, digest, NULL);
     }
-}
-
-static double now(void) {
-    struct timespec t;
-    clock_gettime(CLOCK_MONOTONIC, &t);
-    return (double)t.tv_sec * 1e9 + (double)t.tv_nsec;
 }
 
 /* The sides must answer alike and as expected, or the times mean nothing. */

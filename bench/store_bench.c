@@ -1,20 +1,14 @@
 /* Times of the proved store and of plain C, in one run: the least of many rounds of each, taken in turn. */
+#include "clock.h"
 #include "store.h"
 #include <stdio.h>
 #include <string.h>
-#include <time.h>
 
 enum { SIZE = 65536, ROUNDS = 400 };
 
 static uint8_t store[SIZE], other[SIZE];
 static uint8_t value[384], tag[32], version[16];
 static volatile size_t sink;
-
-static double now(void) {
-    struct timespec t;
-    clock_gettime(CLOCK_MONOTONIC, &t);
-    return t.tv_sec * 1e9 + t.tv_nsec;
-}
 
 /* Key i of n: short ones, or 64 bytes of which 63 are shared. */
 static size_t key_of(uint8_t *k, int i, int shared) {

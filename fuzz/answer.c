@@ -1,9 +1,10 @@
-/* Fuzzing of the answering call: a libFuzzer target, built and run by fuzz/run.sh.
+/* Fuzzing of the answering call, and of local read and rescue on the store that it leaves: a libFuzzer target, built and run by fuzz/run.sh.
 
    libabi.a is not instrumented, so AddressSanitizer does not see what it touches: each range lent to it lies between two inaccessible
    pages, right before the one or right after the other, and a byte too many ends the run. The plain C box (bench/box.c) answers the same
    call on heap copies of the exact lengths, under AddressSanitizer. It is instrumented, so its branches lead the fuzzer; and both must
    leave the same bytes. */
+#include "../bench/blocks.h"
 #include "../bench/client.h"
 #include <stdio.h>
 #include <sys/mman.h>
@@ -11,6 +12,7 @@
 #ifdef PLAIN_TWICE /* the plain box on both sides, to try this program */
 #define ridgeladle_answer plain_answer
 #define ridgeladle_find plain_find
+#define ridgeladle_rescue plain_rescue
 #else
 #include "../include/ridgeladle.h"
 #endif
@@ -79,6 +81,7 @@ typedef struct {
     uint8_t connection, last;
     uint8_t out, form, value, type, step, identity, end, sides;
     uint8_t readings, readings_place, readings_change, bits[4];
+    uint8_t report;
 } choices;
 
 /* A store of 128 entries; a record as formatted, one of three ACLs, and the same with other bytes where the layout uses none; readings, all six; a
@@ -86,12 +89,6 @@ typedef struct {
 static uint8_t full[MOST_STORE], formatted[PLAIN_RECORD], table[PLAIN_RECORD], littered[PLAIN_RECORD], every[MOST_READINGS], filling[1025];
 static const uint8_t key[KEY_LEN + 1] = "key-of-one";
 static const int64_t identities[] = {1, 3, -2, 99};
-
-static void seal(uint8_t *b) {
-    uint32_t s = 0;
-    for (uint32_t i = 0; i < 508; i++) s += b[i] * (i + 1);
-    for (int i = 0; i < 4; i++) b[508 + i] = (uint8_t)(s >> (24 - 8 * i));
-}
 
 static void write_acl(uint8_t *at, int64_t identity, uint16_t mask, const char *value, int tls) {
     for (int i = 0; i < 8; i++) at[i] = (uint8_t)((uint64_t)identity >> (56 - 8 * i));
@@ -136,18 +133,10 @@ static void prepare(void) {
     static const size_t most[PARTS] = {MOST_STORE, PLAIN_RECORD, PLAIN_CONNECTION, MOST_READINGS, MOST_INPUT, MOST_OUT, 2 * sizeof(uint64_t)};
     for (int i = 0; i < PARTS; i++) pages[i] = new_pages(most[i]);
     for (int i = 0; i < 128; i++) {
-        uint8_t *b = full + i * BLOCK;
-        size_t n = (size_t)i * 97 % 385;
-        b[0] = 1;
-        b[1] = (uint8_t)snprintf((char *)b + 8, 64, "key%03d", i);
-        b[2] = (uint8_t)snprintf((char *)b + 72, 16, "v%d", i % 3);
-        b[3] = (uint8_t)(i % 33);
-        b[4] = (uint8_t)(n >> 8);
-        b[5] = (uint8_t)n;
-        b[6] = (uint8_t)(i % 7);
-        memset(b + 88, 't', (size_t)i % 33);
-        memset(b + 120, 'x', n);
-        seal(b);
+        char name[16], version[16];
+        snprintf(name, sizeof name, "key%03d", i);
+        snprintf(version, sizeof version, "v%d", i % 3);
+        write_entry(full + i * BLOCK, name, version, (size_t)i % 33, (size_t)i * 97 % 385, (uint8_t)(i % 7));
     }
     uint8_t blank[BLOCK];
     hold(plain_format(blank, BLOCK, formatted, key, KEY_LEN) == 0, "format");
@@ -159,15 +148,22 @@ static void prepare(void) {
 
 static size_t place_of(const uint8_t two[2], size_t n) { return ((size_t)two[0] << 8 | two[1]) % n; }
 
-/* None; blank; with entries; full; damaged, and with its sum right again; of a wrong length. */
+/* None; blank; with entries; full; damaged, and with its sum right again; of a wrong length; damaged, its blocks out of order, some more than once, some
+   blank. */
 static range store_of(const choices *c, uint8_t *to) {
-    enum { NONE, BLANK, ENTRIES, FULL, DAMAGED, SEALED, LENGTH, KINDS };
+    enum { NONE, BLANK, ENTRIES, FULL, DAMAGED, SEALED, LENGTH, MIXED, KINDS };
     int kind = c->store % KINDS;
     size_t blocks = c->blocks == 255 ? 128 : 1 + c->blocks % 8, n = blocks * BLOCK, used = kind == FULL ? blocks : c->entries % (blocks + 1);
     if (kind == NONE) return (range){to, 0};
     memset(to, 0, n);
     if (kind != BLANK) memcpy(to, full, used * BLOCK);
-    if (kind == DAMAGED || kind == SEALED) {
+    if (kind == MIXED)
+        for (size_t i = 0; i < blocks; i++) {
+            size_t from = (i * c->entries + c->store_place[0]) % 136;
+            if (from < 128) memcpy(to + i * BLOCK, full + from * BLOCK, BLOCK);
+            else memset(to + i * BLOCK, 0, BLOCK);
+        }
+    if (kind == DAMAGED || kind == SEALED || kind == MIXED) {
         size_t at = place_of(c->store_place, n);
         to[at] ^= c->store_change;
         if (kind == SEALED) seal(to + at / BLOCK * BLOCK);
@@ -313,6 +309,45 @@ static void find(range store, const uint8_t *asked, size_t n, int sides) {
     hold(said || (part[0] <= s.n && part[1] <= s.n - part[0]), "the part lies in the store");
 }
 
+/* Rescue on both sides; what it leaves in store and report. What it said. */
+static uint32_t rescue(range store, range report, int sides, int null) {
+    int low = sides & 1, low_report = sides >> OUT & 1;
+    range plain = heap_copy(store), told = heap_copy(report), ours = lend(STORE, store, low), ours_told = lend(OUT, report, low_report);
+    uint32_t said = ridgeladle_rescue(place(ours, null), ours.n, place(ours_told, null), ours_told.n);
+    hold_edge(ours, low);
+    hold_edge(ours_told, low_report);
+    hold(said == 0 || said == 2 || said == 8, "a rescue, or refusal 2 or 8");
+    hold(said == 0 || (same(store, ours) && same(report, ours_told)), "a refusal changes no byte");
+    hold(said == plain_rescue(plain.at, plain.n, told.at, told.n) && same(plain, ours) && same(told, ours_told), "both boxes rescue alike");
+    if (store.n) memcpy(store.at, ours.at, store.n);
+    if (report.n) memcpy(report.at, ours_told.at, report.n);
+    free(plain.at);
+    free(told.at);
+    return said;
+}
+
+/* Rescue of the store that is left, with a report of the right length, or not; then once more; then the answer. */
+static void rescue_all(range state[PARTS], const choices *c) {
+    static uint8_t report[MOST_STORE / BLOCK + 257];
+    static const int off[] = {0, 0, 0, 0, -1, 1, 256, -128};
+    int blocks = (int)(state[STORE].n / BLOCK), n = blocks + off[c->report % 8], null = c->sides >> 7;
+    for (size_t i = 0; i < sizeof report; i++) report[i] = (uint8_t)(i * 29 + c->report);
+    range told = {report, n < 0 ? 0 : (size_t)n};
+    uint32_t said = rescue(state[STORE], told, c->sides, null);
+    int length_good = state[STORE].n % BLOCK == 0 && blocks >= 1 && blocks <= 128;
+    hold(said == (length_good ? told.n == (size_t)blocks ? 0 : 8 : 2), "refusal 2 or 8 exactly for a wrong length");
+    if (said) return;
+    range first = heap_copy(state[STORE]);
+    size_t kept = 0, used = 0;
+    for (int i = 0; i < blocks; i++) kept += report[i] == 1;
+    hold(rescue(state[STORE], told, c->sides, null) == 0 && same(first, state[STORE]), "a second rescue changes nothing");
+    while (used < told.n && report[used] == 1) used++;
+    hold(used == kept, "the kept stand first");
+    for (size_t i = used; i < told.n; i++) hold(report[i] == 0, "the rest is blank");
+    hold(call(state, c->sides, null) != 2, "a rescued store is accepted");
+    free(first.at);
+}
+
 int LLVMFuzzerTestOneInput(const uint8_t *data, size_t size) {
     static uint8_t store[MOST_STORE], record[PLAIN_RECORD], connection[PLAIN_CONNECTION], readings[MOST_READINGS], out[MOST_OUT];
     static const size_t outs[] = {PLAIN_ROOM, 0, PLAIN_ROOM - 1, MOST_OUT};
@@ -332,5 +367,6 @@ int LLVMFuzzerTestOneInput(const uint8_t *data, size_t size) {
         state[INPUT].n -= counts[0];
     }
     find(state[STORE], data, size < 66 ? size : 66, c.sides);
+    rescue_all(state, &c);
     return 0;
 }

@@ -11,7 +11,7 @@ from model import TYPES, field, frame, header_of, message, signed
 
 NUMBER, KEY = 7, b"key-of-one"
 ORDER = ["GET", "PUT", "DELETE", "GETNEXT", "GETPREVIOUS", "GETKEYRANGE", "GETVERSION", "SETUP", "SECURITY", "NOOP", "FLUSHALLDATA", "GETLOG"]
-NO_STORE, BLANK, ENTRIES, FULL, DAMAGED, SEALED, LENGTH = range(7)
+NO_STORE, BLANK, ENTRIES, FULL, DAMAGED, SEALED, LENGTH, MIXED = range(8)
 RAW, MESSAGE, COMMAND, BODY, PART = range(5)
 NO_VALUE, VALUE_384, VALUE_385 = 0, 4, 5
 EVERY_READING, NO_READING, READING_VALUE, READING_DAMAGED, READINGS_LENGTH, READINGS_EMPTY = range(6)
@@ -19,10 +19,10 @@ EVERY_READING, NO_READING, READING_VALUE, READING_DAMAGED, READINGS_LENGTH, READ
 
 def seed(rest, form=PART, operation="GET", store=ENTRIES, blocks=3, entries=2, store_place=0, store_change=0, record=1, record_place=0,
          record_change=0, connection=0, last=0, out=0, value=NO_VALUE, step=1, identity=0, end=0, sides=0, readings=EVERY_READING,
-         readings_place=0, readings_change=0, bits=0):
+         readings_place=0, readings_change=0, bits=0, report=0):
     return bytes([store, blocks, entries, *store_place.to_bytes(2, "big"), store_change, record, *record_place.to_bytes(2, "big"), record_change,
                   connection, last, out, form, value, ORDER.index(operation), step, identity, end, sides, readings, readings_place, readings_change,
-                  *bits.to_bytes(4, "big")]) + rest
+                  *bits.to_bytes(4, "big"), report]) + rest
 
 
 def key_values():
@@ -127,6 +127,18 @@ def states():
     yield seed(key, record=3, record_place=391, record_change=2)  # identity 1 twice
 
 
+def rescues():
+    key = message((3, b"key000"))
+    for report in range(4, 8):
+        for store in (NO_STORE, ENTRIES, FULL, LENGTH):
+            yield seed(key, store=store, report=report, sides=0x80)
+    for blocks in (1, 5, 7, 255):
+        for step in (1, 2, 32, 37, 64, 127, 128):
+            yield seed(key, store=MIXED, blocks=blocks, entries=step, store_place=3 << 8 | 120, store_change=step % 2, sides=step)
+    for place in (0, 1, 4, 7, 8, 13, 120, 504, 511):
+        yield seed(key, store=MIXED, blocks=6, entries=5, store_place=512 + place, store_change=1)
+
+
 def limits():
     command = message((1, header_of(NUMBER, 1, TYPES["NOOP"])))
     for length in (8192, 8193):
@@ -150,7 +162,7 @@ def limits():
 def main():
     folder = pathlib.Path(sys.argv[1])
     folder.mkdir(parents=True, exist_ok=True)
-    for part in (key_values, ranges, logs, tables, others, states, limits):
+    for part in (key_values, ranges, logs, tables, others, states, rescues, limits):
         for n, data in enumerate(part()):
             (folder / f"{part.__name__}-{n:02}").write_bytes(data)
 
