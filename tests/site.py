@@ -22,6 +22,7 @@ CRATE = os.path.join(HERE, "..", "crates", "site_main")
 HEAD = f"    No.  {'Time   Who       Asked':64}{'Answer':28}  Taken Written Entries  Reply, or its SHA-1\n"
 CODES = {code: name for name, code in model.STATUS.items()}
 NAMES = {number: name for name, number in model.REFUSALS.items()}
+BECAME = {"kept": model.KEPT, "blank": model.WAS_BLANK, "check wrong": model.CHECK_WRONG, "rule broken": model.RULE_BROKEN, "key twice": model.KEY_TWICE}
 
 
 def shown(data):
@@ -112,9 +113,16 @@ class Day:
         self.row(f"local {key.hex() or '-'}", "display", asked, "refusal 2 STORE_BAD" if how == "STORE_BAD" else how)
         self.written.append(under("value", value))
 
+    def rescue(self, asked):
+        refusal, store, report = model.rescue(self.box.store, bytes(len(self.box.store) // model.BLOCK))
+        self.box = model.Box(store, self.box.record)
+        became = ", ".join(f"{name} {report.count(byte)}" for name, byte in BECAME.items())
+        self.row("rescue", "host", asked, f"refusal {refusal} {NAMES[refusal]}" if refusal else became)
+        return report
+
     def lend(self, room, asked):
         self.room = room
-        self.row(f"room {room}", "host", asked, "done")
+        self.row(f"out {room}", "host", asked, "done")
 
     def measured(self, readings, asked):
         """From now on these readings are lent."""
@@ -426,6 +434,38 @@ def bad_state(day, tablet):
     tablet.look("GET", b"t1/103000")
 
 
+def place_of(store, key):
+    """Where the block of a key begins in a good store."""
+    return next(at for at in range(0, len(store), model.BLOCK) if model.entry_of(store[at:at + model.BLOCK]).key == key)
+
+
+def rescue(day, timers, tablet):
+    one, two = timers
+    day.title("Two blocks of the store go bad, and the rest is rescued")
+    day.time = "17:30"
+    two.look("DELETE", b"t2/080030", "t2/080030 by force", force=1)
+    two.look("DELETE", b"t2/080100", "t2/080100 by force", force=1)
+    assert code_of(one.put(b"t1/173000", reading(95)).reply) == code_of(two.put(b"t2/173000", reading(96)).reply) == 1
+    first, second = place_of(day.box.store, b"t1/100000"), place_of(day.box.store, b"t1/173000")
+    day.overwrite("block", first + 7, 1, "byte 7 of t1/100000's block set")
+    check = model.check_of(day.box.store[first:first + 508])
+    day.overwrite("block", first + 511, check[3], "its check made right")
+    assert day.box.store[first + 508:first + 512] == check
+    day.overwrite("block", second + 120, day.box.store[second + 120] ^ 1, "a bit of t1/173000's value turned")
+    assert tablet.look("GET", b"t2/173000").refusal == one.put(b"t1/173000", reading(97), force=1, asked="t1/173000 by force").refusal == 2
+    day.local(b"t2/173000", "t2/173000")
+    report = day.rescue("the rescue of 128 blocks")
+    assert report.count(model.KEPT) == 126 and report[first // model.BLOCK] == model.RULE_BROKEN and report[second // model.BLOCK] == model.CHECK_WRONG
+    assert code_of(tablet.look("GET", b"t2/173000").reply) == 1
+    day.local(b"t2/173000", "t2/173000")
+    assert code_of(tablet.look("GET", b"t1/173000").reply) == code_of(tablet.look("GET", b"t1/100000").reply) == 7
+    tablet.range(b"t1/", b"t1/~", "t1/ to t1/~, backwards, 3 at most", most=3, reverse=1)
+    assert code_of(one.put(b"t1/173000", reading(97), asked="t1/173000 anew").reply) == 1
+    tablet.look("GET", b"t1/173000")
+    assert day.rescue("the rescue of a good store").count(model.KEPT) == 127
+    tablet.look("GET", b"t1/173000")
+
+
 def evening(day, office, timers):
     day.title("The office takes the timers out")
     day.time = "18:00"
@@ -451,6 +491,7 @@ def made():
     cluster(day, office, timers)
     full(day, office, timers, tablet)
     bad_state(day, tablet)
+    rescue(day, timers, tablet)
     evening(day, office, timers)
     return {"stdin": "".join(day.events), "stdout": "".join(day.written)}
 

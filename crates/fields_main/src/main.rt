@@ -1,7 +1,4 @@
 // Reads messages, one to a line of its input: the kind and the bytes in hex. Prints the listed fields of each, or 'refused'.
-ghost use mathlib.Core.Path.{_≡_};
-ghost use Prim.Native.Nat.{_<_, _≤_};
-ghost use lib.ListN.{length};
 use fields::judge::Judged;
 use fields::judge::Taken;
 use fields::judge::judge;
@@ -12,10 +9,10 @@ use libc::STDOUT_FILENO;
 use tree::Kind;
 use wire::field::next_of;
 use wire::field::read_field;
-
-fn wide(b: u8) -> u64 {
-    b as u64
-}
+use words::part;
+use words::place_of;
+use words::unhex;
+use words::write_hex;
 
 fn write(b: &[u8]) {
     io::write_all(STDOUT_FILENO, b);
@@ -33,25 +30,6 @@ fn show_number(v: u64) {
     io::print_decimal(STDOUT_FILENO, v);
 }
 
-fn show_bytes(b: &[u8]) {
-    let mut i = 0;
-    while i < b.len() {
-        io::print_hex(STDOUT_FILENO, wide(b[i]), 2);
-        i += 1;
-    }
-}
-
-// A part of s; nothing of it where there is no such part.
-fn part(s: &[u8], start: usize, len: usize) -> &[u8] {
-    if start <= s.len() {
-        if len <= s.len() - start {
-            let end = start + len;
-            return &s[start..end];
-        }
-    }
-    &s[..0]
-}
-
 // A field that is no message, or where one begins.
 fn show_plain(s: &[u8], number: usize, what: Taken) {
     io::print_decimal(STDOUT_FILENO, number as u64);
@@ -63,12 +41,12 @@ fn show_plain(s: &[u8], number: usize, what: Taken) {
         }
         Taken::Slice { start, len } => {
             write(b":");
-            show_bytes(part(s, start, len));
+            write_hex(part(s, start, len));
             write(b";");
         }
         Taken::Fixed { start } => {
             write(b"#");
-            show_bytes(part(s, start, 4));
+            write_hex(part(s, start, 4));
             write(b";");
         }
         Taken::Inside {
@@ -145,45 +123,6 @@ fn kind_of(b: u8) -> Kind {
     }
 }
 
-fn nibble(c: u8) -> u8
-    ensures { λ r. ⌜ r < 16 ⌝ }
-{
-    match c {
-        48..=57 => c - 48,
-        97..=102 => c - 87,
-        _ => 0,
-    }
-}
-
-fn unhex(line: &[u8], out: &mut [u8; 1024]) -> usize
-    requires { ⌜ 1024 ≡ length (now out) ⌝ }
-    ensures { λ r. ⌜ 1024 ≡ length (now (out .exit)) ⌝ }
-{
-    let mut i = 0;
-    while i < 1024 {
-        if line.len() < 2 * i + 2 {
-            return i;
-        }
-        out[i] = nibble(line[2 * i]) * 16 + nibble(line[2 * i + 1]);
-        i += 1;
-    }
-    1024
-}
-
-fn line_end(s: &[u8], from: usize) -> usize
-    requires { ⌜ from ≤ length (now s) ⌝ }
-    ensures { λ r. ⌜ (from ≤ r) × (r ≤ length (now (s .entry))) ⌝ }
-{
-    let mut i = from;
-    while i < s.len() {
-        if s[i] == b'\n' {
-            return i;
-        }
-        i += 1;
-    }
-    i
-}
-
 fn case(line: &[u8]) {
     let mut bytes = [0u8; 1024];
     let n = unhex(line, &mut bytes);
@@ -196,7 +135,7 @@ fn case(line: &[u8]) {
 fn lines(s: &[u8]) {
     let mut at = 0;
     while at < s.len() {
-        let end = line_end(s, at);
+        let end = place_of(s, b'\n', at);
         case(&s[at..end]);
         at = end + 1;
     }

@@ -6,7 +6,8 @@
 //   connect SLOT NUMBER PROTECTED LABEL    Connect; the connection is kept in one of eight slots
 //   send SLOT INPUT LABEL                  the answering call
 //   local KEY LABEL                        the local read
-//   room LENGTH LABEL                      from now on so many bytes of the reply buffer are lent
+//   rescue LABEL                           the rescue, with a report of one byte for each block
+//   out LENGTH LABEL                       from now on so many bytes of the reply buffer are lent
 //   measured READINGS LABEL                from now on these readings are lent; before the first, 134 zero bytes
 //   block PLACE BYTE LABEL                 a byte of the lent store is overwritten
 //   device PLACE BYTE LABEL                a byte of the device record is overwritten
@@ -21,13 +22,20 @@ use libc::STDIN_FILENO;
 use libc::STDOUT_FILENO;
 use local::Local;
 use lookups::repeated::next_numbered;
+use rescue::Rescued;
 use sha1::Digest;
 use wire::field::Found;
 use wire::field::next_of;
 use wire::field::read_field;
-ghost use mathlib.Core.Path.{_≡_};
-ghost use Prim.Native.Nat.{_<_, _≤_, _+_};
-ghost use lib.ListN.{length};
+use words::first;
+use words::number;
+use words::part;
+use words::place_of;
+use words::rest;
+use words::unhex;
+use words::word;
+use words::write_hex;
+ghost use Prim.Native.Nat.{_<_, _≤_};
 
 // What the host keeps: how much it lends of the store and of the reply buffer, and the number of the last row.
 struct Host {
@@ -42,107 +50,10 @@ type Readings = [u8; 134];
 
 type Slots = [u64; 24];
 
-// ---- words of a line
-
 fn wide(b: u8) -> u64
     ensures { λ r. ⌜ r < 256 ⌝ }
 {
     b as u64
-}
-
-// The place of the first byte b, or the end.
-fn place_of(s: &[u8], b: u8, from: usize) -> usize
-    requires { ⌜ from ≤ length (now s) ⌝ }
-    ensures { λ r. ⌜ (from ≤ r) × (r ≤ length (now (s .entry))) ⌝ }
-{
-    let mut i = from;
-    while i < s.len() {
-        if s[i] == b {
-            return i;
-        }
-        i += 1;
-    }
-    i
-}
-
-// The first word of s.
-fn word(s: &[u8]) -> &[u8] {
-    let end = place_of(s, b' ', 0);
-    &s[0..end]
-}
-
-// The first letter of s.
-fn first(s: &[u8]) -> u8 {
-    if s.len() == 0 {
-        return 0;
-    }
-    s[0]
-}
-
-// What follows the first word.
-fn rest(s: &[u8]) -> &[u8] {
-    let end = place_of(s, b' ', 0);
-    if end < s.len() {
-        let next = end + 1;
-        return &s[next..];
-    }
-    &s[0..0]
-}
-
-// A part of s; nothing of it where there is no such part.
-fn part(s: &[u8], start: usize, len: usize) -> &[u8] {
-    if start <= s.len() {
-        if len <= s.len() - start {
-            let end = start + len;
-            return &s[start..end];
-        }
-    }
-    &s[0..0]
-}
-
-fn nibble(c: u8) -> u8
-    ensures { λ r. ⌜ r < 16 ⌝ }
-{
-    match c {
-        48..=57 => c - 48,
-        97..=102 => c - 87,
-        _ => 0,
-    }
-}
-
-// The first word of s, in decimal; the digits of one above 10^17 are left out.
-fn number(s: &[u8]) -> u64 {
-    let end = place_of(s, b' ', 0);
-    let mut v: u64 = 0;
-    let mut i = 0;
-    while i < end {
-        if 100000000000000000 < v {
-            return v;
-        }
-        v = v * 10 + wide(nibble(s[i]));
-        i += 1;
-    }
-    v
-}
-
-// The byte of two digits in hex.
-fn byte_at(s: &[u8], at: usize) -> u8
-    requires { ⌜ at + 1 < length (now s) ⌝ }
-{
-    nibble(s[at]) * 16 + nibble(s[at + 1])
-}
-
-// The bytes of a word in hex, and how many there are.
-fn unhex(s: &[u8], out: &mut [u8]) -> usize {
-    let mut i = 0;
-    while i < out.len() {
-        if s.len() / 2 <= i {
-            return i;
-        }
-        out[i] = byte_at(s, 2 * i);
-        i += 1;
-    }
-    i
 }
 
 // ---- the connections, three words each: number, flags, last sequence
@@ -247,18 +158,10 @@ fn text(b: &[u8]) {
     }
 }
 
-fn hex(b: &[u8]) {
-    let mut i = 0;
-    while i < b.len() {
-        io::print_hex(STDOUT_FILENO, wide(b[i]), 2);
-        i += 1;
-    }
-}
-
 fn sha1(b: &[u8]) {
     if let Digest::Made(s) = sha1::sha1(b) {
         let d = sha1::bytes(s);
-        hex(&d);
+        write_hex(&d);
     }
 }
 
@@ -519,7 +422,7 @@ fn shortly(reply: &[u8]) {
     }
     blanks(2);
     if reply.len() <= 24 {
-        hex(reply);
+        write_hex(reply);
     } else {
         sha1(reply);
     }
@@ -725,6 +628,58 @@ fn shown_as(r: Local) {
     }
 }
 
+// How often b stands in a report.
+fn times(report: &[u8], b: u8) -> u64 {
+    let mut n = 0;
+    let mut i = 0;
+    while i < report.len() {
+        n += bit(report[i] == b);
+        i += 1;
+    }
+    n
+}
+
+fn amount(name: &[u8], report: &[u8], b: u8) {
+    write(name);
+    io::print_decimal(STDOUT_FILENO, times(report, b));
+}
+
+// What became of the blocks.
+fn amounts(report: &[u8]) {
+    amount(b"kept ", report, 1);
+    amount(b", blank ", report, 0);
+    amount(b", check wrong ", report, 2);
+    amount(b", rule broken ", report, 3);
+    amount(b", key twice ", report, 4);
+    newline();
+}
+
+fn rescued(r: Rescued, report: &[u8]) {
+    match r {
+        Rescued::Done => amounts(report),
+        Rescued::StoreBad => write(b"refusal 2 STORE_BAD\n"),
+        Rescued::ReportBad => write(b"refusal 8 REPORT_BAD\n"),
+    }
+}
+
+fn rescue_lent(store: &mut [u8], report: &mut [u8]) {
+    let r = rescue::rescue(store, report);
+    rescued(r, report);
+}
+
+fn rescue(asked: &[u8], store: &mut [u8], host: Host) -> Host {
+    let mut report = [0u8; 128];
+    let next = row(asked, host);
+    let n = host.store;
+    let blocks = n / 512;
+    if n <= store.len() {
+        if blocks <= 128 {
+            rescue_lent(&mut store[0..n], &mut report[0..blocks]);
+        }
+    }
+    next
+}
+
 // ---- what the host does beside the calls
 
 fn room(said: &[u8], host: Host) -> Host {
@@ -772,7 +727,7 @@ fn beside(
 ) -> Host {
     let said = rest(line);
     match first(line) {
-        b'r' => room(said, host),
+        b'o' => room(said, host),
         b'm' => measured(said, readings, host),
         b'b' => overwrite(said, store, host),
         b'd' => overwrite(said, device, host),
@@ -802,6 +757,7 @@ fn event(
         b'c' => connect(said, slots, host),
         b's' => send(said, store, device, readings, slots, host),
         b'l' => local_read(said, store, host),
+        b'r' => rescue(said, store, host),
         _ => beside(line, store, device, readings, host),
     }
 }

@@ -9,18 +9,11 @@ use field_writers::push_nonempty;
 use field_writers::push_nonzero;
 use field_writers::push_raw;
 use libc::STDOUT_FILENO;
+use words::write_hex;
 use writers::Maybe;
 
-fn wide(b: u8) -> u64 {
-    b as u64
-}
-
 fn show(b: &[u8]) {
-    let mut i = 0;
-    while i < b.len() {
-        io::print_hex(STDOUT_FILENO, wide(b[i]), 2);
-        i += 1;
-    }
+    write_hex(b);
     io::write_all(STDOUT_FILENO, b"\n");
 }
 

@@ -2,8 +2,8 @@ use borrow.Author.Needs.{needs}
 use Prim.Native.Nat.{_≤_, _-_}
 use mathlib.Core.Path.{_≡_}
 use lib.ListN.{length}
-use Rattle.site_main.proofs.unhex.Statement.{statement}
-use Rattle.site_main.proofs.unhex.Tie as tie
+use Rattle.words.proofs.unhex.Statement.{statement}
+use Rattle.words.proofs.unhex.Tie as tie
 
 abbrev Inv-loop : tie.InvT-loop
 Inv-loop s out₀ i₀ out i = (i ≤ length out₀) × (length out ≡ length out₀)

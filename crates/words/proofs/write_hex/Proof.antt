@@ -1,8 +1,8 @@
 use borrow.Author.Needs.{needs}
 use Prim.Native.Nat.{_≤_, _-_}
 use lib.ListN.{length}
-use Rattle.fields_main.proofs.show_bytes.Statement.{statement}
-use Rattle.fields_main.proofs.show_bytes.Tie as tie
+use Rattle.words.proofs.write_hex.Statement.{statement}
+use Rattle.words.proofs.write_hex.Tie as tie
 
 abbrev Inv-loop : tie.InvT-loop
 Inv-loop b i₀ i = i ≤ length b
@@ -34,8 +34,8 @@ loop-again c = search needs
 returns : tie.Need-returns Inv-loop μ-loop
 returns c = search needs
 
-pub show-bytes-spec : {M : Type 1} → statement M
-show-bytes-spec =
+pub write-hex-spec : {M : Type 1} → statement M
+write-hex-spec =
     tie.close
     (tie.spec
     Inv-loop

@@ -1,8 +1,8 @@
 use borrow.Author.Needs.{needs}
 use Prim.Native.Nat.{_≤_, _-_}
 use lib.ListN.{length}
-use Rattle.site_main.proofs.place_of.Statement.{statement}
-use Rattle.site_main.proofs.place_of.Tie as tie
+use Rattle.words.proofs.place_of.Statement.{statement}
+use Rattle.words.proofs.place_of.Tie as tie
 
 abbrev Inv-loop : tie.InvT-loop
 Inv-loop s b from i₀ i = (from ≤ i) × (i ≤ length s)
