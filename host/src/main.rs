@@ -1,0 +1,30 @@
+use ridgeladle::failure::{Failure, Result};
+use ridgeladle::{commands, format, rescue, say, server, show, text};
+use std::ffi::OsString;
+use std::process::ExitCode;
+
+const HELP: &str = include_str!("help.txt");
+
+fn main() -> ExitCode {
+    let words: Vec<OsString> = std::env::args_os().skip(1).collect();
+    let name = words.first().map_or("help".into(), |word| word.to_string_lossy());
+    match command(&name, words.get(1..).unwrap_or_default()) {
+        Ok(()) => ExitCode::SUCCESS,
+        Err(Failure { code, message }) => {
+            say(format!("{name}: {message}"));
+            ExitCode::from(code)
+        }
+    }
+}
+
+fn command(name: &str, words: &[OsString]) -> Result<()> {
+    match name {
+        "serve" => server::run(words),
+        "format" => format::run(words),
+        "show" => show::run(words),
+        "rescue" => rescue::run(words),
+        "help" | "--help" | "-h" => text::print(HELP),
+        _ if commands::known(name) => commands::run(name, words),
+        _ => Err(Failure::usage("no such command; 'ridgeladle help' lists them")),
+    }
+}

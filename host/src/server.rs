@@ -1,0 +1,214 @@
+//! `ridgeladle serve`: the box over TCP, a thread for each connection.
+
+use crate::arguments::Arguments;
+use crate::failure::{Failure, Result};
+use crate::image::{Image, Place};
+use crate::keeper::Keeper;
+use crate::library::{self, CONNECTION, MORE, MOST_FRAME};
+use crate::readings_file::ReadingsFile;
+use crate::text::print;
+use crate::{random, say};
+use std::ffi::OsString;
+use std::io::{self, ErrorKind, Read, Write};
+use std::net::{Shutdown, SocketAddr, TcpListener, TcpStream};
+use std::sync::Arc;
+use std::sync::atomic::{AtomicUsize, Ordering};
+use std::thread;
+use std::time::{Duration, Instant};
+
+const LISTEN: &str = "127.0.0.1:8123";
+const CONNECTIONS: i64 = 64;
+const IDLE: i64 = 120;
+/// How long a closing reply may take to reach a peer that is still sending.
+const FAREWELL: Duration = Duration::from_secs(2);
+/// Of a connection's thread: the library takes under 10 KB, the input and a reply under 30.
+const STACK: usize = 256 << 10;
+
+struct Server {
+    keeper: Keeper,
+    open: AtomicUsize,
+    most: usize,
+    idle: Duration,
+}
+
+pub fn run(words: &[OsString]) -> Result<()> {
+    let arguments = Arguments::read(words, &["image", "listen", "protected-listen", "readings", "connections", "idle"], &[])?;
+    let [] = arguments.plain_bytes([])?;
+    let path = arguments.path("image")?;
+    let most = arguments.number("connections", 1, 4096, CONNECTIONS)? as usize;
+    let idle = Duration::from_secs(arguments.number("idle", 1, 86400, IDLE)? as u64);
+    let place = Place::take(&path)?;
+    let image = Image::open(&path)?;
+    let used = format!("{} of {} blocks used", image.used(), image.blocks());
+    let plain = listener(arguments.words("listen")?.unwrap_or(LISTEN))?;
+    let protected = arguments.words("protected-listen")?.map(listener).transpose()?;
+    let server = Arc::new(Server { keeper: Keeper::new(place, image), open: AtomicUsize::new(0), most, idle });
+    if let Some(path) = arguments.option("readings") {
+        let (server, mut file) = (server.clone(), ReadingsFile::new(path.into()));
+        file.look(&server.keeper);
+        start(move || file.follow(&server.keeper))?;
+    }
+    print(format!("serving {} on {}, {used}\n", path.display(), local(&plain)?))?;
+    if let Some(listener) = protected {
+        print(format!("serving protected on {}\n", local(&listener)?))?;
+        let server = server.clone();
+        start(move || server.accept(&listener, true))?;
+    }
+    server.accept(&plain, false)
+}
+
+fn listener(address: &str) -> Result<TcpListener> {
+    TcpListener::bind(address).map_err(|why| Failure::system(format!("can't listen on {address}: {why}")))
+}
+
+fn local(listener: &TcpListener) -> Result<SocketAddr> {
+    listener.local_addr().map_err(Failure::system)
+}
+
+fn start(work: impl FnOnce() + Send + 'static) -> Result<()> {
+    thread::Builder::new().stack_size(STACK).spawn(work).map(|_| ()).map_err(|why| Failure::system(format!("can't start a thread: {why}")))
+}
+
+/// How a connection ended.
+enum End {
+    Left,
+    /// The box closed it.
+    Closed,
+    Said(String),
+}
+
+impl Server {
+    fn accept(self: &Arc<Server>, listener: &TcpListener, protected: bool) -> ! {
+        loop {
+            match listener.accept() {
+                Ok((stream, peer)) => self.admit(stream, peer, protected),
+                Err(why) => {
+                    say(format!("can't accept a connection: {why}"));
+                    thread::sleep(Duration::from_millis(100));
+                }
+            }
+        }
+    }
+
+    fn admit(self: &Arc<Server>, stream: TcpStream, peer: SocketAddr, protected: bool) {
+        let place = Counted::new(self.clone());
+        if place.number > self.most {
+            return say(format!("{peer}: closed, {} connections are open already", self.most));
+        }
+        let work = move || {
+            match place.server.converse(&stream, protected) {
+                Ok(End::Left) => (),
+                Ok(End::Closed) => say(format!("{peer}: closed by the box: no frame, or no message that is signed right")),
+                Ok(End::Said(words)) => say(format!("{peer}: {words}")),
+                Err(why) => say(format!("{peer}: {why}")),
+            };
+        };
+        if let Err(failure) = start(work) {
+            say(format!("{peer}: closed, {}", failure.message));
+        }
+    }
+
+    fn converse(&self, stream: &TcpStream, protected: bool) -> io::Result<End> {
+        stream.set_nodelay(true)?;
+        let mut connection = library::connect(random::number()? as i64, protected);
+        let (mut input, mut filled) = ([0; 2 * MOST_FRAME], 0);
+        let mut replies = Vec::new();
+        let mut deadline = Instant::now() + self.idle;
+        loop {
+            match read_until(stream, &mut input[filled..], deadline)? {
+                None => return Ok(End::Said(format!("closed, no whole request in {} s", self.idle.as_secs()))),
+                Some(0) if filled == 0 => return Ok(End::Left),
+                Some(0) => return Ok(End::Said(format!("left after {filled} bytes of a request"))),
+                Some(more) => filled += more,
+            }
+            replies.clear();
+            let taken = match self.turn(&mut connection, &input[..filled], &mut replies) {
+                Ok(taken) => taken,
+                Err(words) => return Ok(End::Said(words)),
+            };
+            if !write_until(stream, &replies, Instant::now() + self.idle)? {
+                return Ok(End::Said(format!("closed, it took no reply in {} s", self.idle.as_secs())));
+            }
+            if library::closed(&connection) {
+                return farewell(stream).map(|()| End::Closed);
+            }
+            if taken > 0 {
+                input.copy_within(taken..filled, 0);
+                filled -= taken;
+                deadline = Instant::now() + self.idle;
+            }
+        }
+    }
+
+    /// Answers what has come whole; the replies may be sent when this returns, and so many bytes of the input are taken.
+    fn turn(&self, connection: &mut [u8; CONNECTION], input: &[u8], replies: &mut Vec<u8>) -> std::result::Result<usize, String> {
+        let answers = self.keeper.answer(connection, input, replies);
+        if answers.refusal != MORE && !library::closed(connection) {
+            return Err(format!("closed, the box refuses to answer ({})", answers.refusal));
+        }
+        if !self.keeper.settle(&answers) {
+            return Err("closed with no reply, the disk refused".into());
+        }
+        Ok(answers.taken)
+    }
+}
+
+/// None where nothing came by the deadline, 0 where the peer will send no more.
+fn read_until(mut stream: &TcpStream, into: &mut [u8], deadline: Instant) -> io::Result<Option<usize>> {
+    let Some(left) = remaining(deadline) else { return Ok(None) };
+    stream.set_read_timeout(Some(left))?;
+    match stream.read(into) {
+        Err(why) if timed_out(&why) => Ok(None),
+        Err(why) if why.kind() == ErrorKind::ConnectionReset => Ok(Some(0)),
+        read => read.map(Some),
+    }
+}
+
+/// False where the peer did not take all of it by the deadline.
+fn write_until(mut stream: &TcpStream, mut bytes: &[u8], deadline: Instant) -> io::Result<bool> {
+    while !bytes.is_empty() {
+        let Some(left) = remaining(deadline) else { return Ok(false) };
+        stream.set_write_timeout(Some(left))?;
+        match stream.write(bytes) {
+            Err(why) if timed_out(&why) => return Ok(false),
+            Err(why) if why.kind() == ErrorKind::Interrupted => (),
+            written => bytes = &bytes[written?..],
+        }
+    }
+    Ok(true)
+}
+
+fn remaining(deadline: Instant) -> Option<Duration> {
+    deadline.checked_duration_since(Instant::now()).filter(|left| !left.is_zero())
+}
+
+fn timed_out(why: &io::Error) -> bool {
+    matches!(why.kind(), ErrorKind::WouldBlock | ErrorKind::TimedOut)
+}
+
+/// Reads on until the peer has closed too: to close with bytes unread would take the last reply back from it.
+fn farewell(stream: &TcpStream) -> io::Result<()> {
+    let (mut bin, deadline) = ([0; 4096], Instant::now() + FAREWELL);
+    stream.shutdown(Shutdown::Write)?;
+    while read_until(stream, &mut bin, deadline)?.is_some_and(|read| read > 0) {}
+    Ok(())
+}
+
+/// A connection that is open, counted until it is dropped.
+struct Counted {
+    server: Arc<Server>,
+    number: usize,
+}
+
+impl Counted {
+    fn new(server: Arc<Server>) -> Counted {
+        let number = server.open.fetch_add(1, Ordering::Relaxed) + 1;
+        Counted { server, number }
+    }
+}
+
+impl Drop for Counted {
+    fn drop(&mut self) {
+        self.server.open.fetch_sub(1, Ordering::Relaxed);
+    }
+}
