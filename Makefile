@@ -1,4 +1,8 @@
-.PHONY: test run bench conformance mutants fuzz
+.PHONY: run test demo programs bench conformance mutants fuzz
+
+# A box on loopback, proved and built first, with three commands to try.
+run:
+	host/run
 
 # What takes seconds first; then the toolchain's gate, whose line is the last.
 test:
@@ -6,8 +10,13 @@ test:
 	rt fmt --check
 	tests/gate
 
-# What there is to run: a day at a site, and the outside vectors, with a line for each saying what was compared.
-run:
+# A shift at a foundry in a few seconds: timers of old and new firmware, a tablet and the office.
+demo:
+	host/build
+	host/demo
+
+# The proved programs: a day at a site, and the outside vectors, with a line for each saying what was compared.
+programs:
 	rt check site_main signature_main fields_main writers_main store_main rescue_main readings_main verdicts
 	tests/compare.py site_main "conformance/model.py, from document 01"
 	tests/compare.py fields_main "protoc's bytes and lines worked out by tests/fields.py"
