@@ -4,6 +4,7 @@ use crate::arguments::Arguments;
 use crate::client::{self, Account, Client, Reply, unreadable};
 use crate::failure::{Failure, Result};
 use crate::key::key_of;
+use crate::server::LISTEN;
 use crate::text::{ALGORITHMS, algorithm, print, shown};
 use crate::wire::{Fields, MOST_VALUE, Message};
 use crate::{input, table_file};
@@ -74,8 +75,11 @@ fn connect(arguments: &Arguments) -> Result<Client> {
     let identity = arguments.number("identity", i64::MIN, i64::MAX, 1)?;
     let cluster_version = arguments.number("cluster-version", i64::MIN, i64::MAX, 0)?;
     let timeout = Duration::from_secs(arguments.number("timeout", 1, 86400, 10)?.unsigned_abs());
-    let server = arguments.words("server")?.unwrap_or("127.0.0.1:8123");
-    Client::connect(server, Account { identity, key: key_of(arguments)?, cluster_version }, timeout)
+    let server = match arguments.words("server")? {
+        Some(address) => address.to_string(),
+        None => std::env::var("RIDGELADLE_SERVER").unwrap_or_else(|_| LISTEN.to_string()),
+    };
+    Client::connect(&server, Account { identity, key: key_of(arguments)?, cluster_version }, timeout)
 }
 
 /// A body with a part alone.

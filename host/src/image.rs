@@ -153,19 +153,19 @@ impl Place {
         self.folder.sync_all()
     }
 
-    /// Writes an image beside this one, under its name with an ending, where nothing has that name yet.
-    pub fn write_beside(&self, ending: &str, image: &Image) -> Result<PathBuf> {
+    /// Writes an image beside this one, under its name with an ending, where nothing has that name yet; gives the name.
+    pub fn write_beside(&self, ending: &str, image: &Image) -> Result<String> {
         let new = beside(&self.path, ending);
         let written = write_new(&new, image).and_then(|()| self.folder.sync_all());
         written.map_err(|why| Failure::file(&new, why))?;
-        Ok(new)
+        Ok(name_of(&new))
     }
 
-    /// Gives the image a second name, with an ending, where nothing has that name yet.
-    pub fn keep_as(&self, ending: &str) -> Result<PathBuf> {
+    /// Gives the image a second name, with an ending, where nothing has that name yet; gives the name.
+    pub fn keep_as(&self, ending: &str) -> Result<String> {
         let kept = beside(&self.path, ending);
         hard_link(&self.path, &kept).map_err(|why| Failure::file(&kept, why))?;
-        Ok(kept)
+        Ok(name_of(&kept))
     }
 }
 
@@ -173,6 +173,10 @@ fn write_new(path: &Path, image: &Image) -> io::Result<()> {
     let mut file = OpenOptions::new().write(true).create_new(true).mode(0o600).open(path)?;
     file.write_all(&image.bytes())?;
     file.sync_all()
+}
+
+fn name_of(path: &Path) -> String {
+    path.file_name().unwrap_or_default().to_string_lossy().into_owned()
 }
 
 fn beside(path: &Path, ending: &str) -> PathBuf {

@@ -49,13 +49,13 @@ fn new_record(arguments: &Arguments) -> Result<[u8; library::RECORD]> {
 
 fn put_beside(place: &Place, image: &Image) -> Result<String> {
     let new = place.write_beside(".rescued", image)?;
-    Ok(format!("The new image is {}; the old one was not touched.\n", new.display()))
+    Ok(format!("The new image is {new} beside it; the old one was not touched.\n"))
 }
 
 fn replace(place: &Place, image: &Image) -> Result<String> {
     let kept = place.keep_as(".damaged")?;
     place.write(image).map_err(|why| Failure::file(&place.path, why))?;
-    Ok(format!("The new image stands in its place; the old one is {}.\n", kept.display()))
+    Ok(format!("The new image stands in its place; the old one is {kept} beside it.\n"))
 }
 
 /// What was found, what became of each place that was not blank, and how many readings were kept and lost.

@@ -16,7 +16,7 @@ use std::sync::atomic::{AtomicUsize, Ordering};
 use std::thread;
 use std::time::{Duration, Instant};
 
-const LISTEN: &str = "127.0.0.1:8123";
+pub const LISTEN: &str = "127.0.0.1:8123";
 const CONNECTIONS: i64 = 64;
 const IDLE: i64 = 120;
 /// How long a closing reply may take to reach a peer that is still sending.
