@@ -153,15 +153,18 @@ impl Server {
     }
 }
 
-/// None where nothing came by the deadline, 0 where the peer will send no more.
+/// None where nothing came by the deadline, 0 where the peer will send no more. A read with a time limit is interrupted where the server is stopped and goes on.
 fn read_until(mut stream: &TcpStream, into: &mut [u8], deadline: Instant) -> io::Result<Option<usize>> {
-    let Some(left) = remaining(deadline) else { return Ok(None) };
-    stream.set_read_timeout(Some(left))?;
-    match stream.read(into) {
-        Err(why) if timed_out(&why) => Ok(None),
-        Err(why) if why.kind() == ErrorKind::ConnectionReset => Ok(Some(0)),
-        read => read.map(Some),
+    while let Some(left) = remaining(deadline) {
+        stream.set_read_timeout(Some(left))?;
+        match stream.read(into) {
+            Err(why) if why.kind() == ErrorKind::Interrupted => (),
+            Err(why) if timed_out(&why) => return Ok(None),
+            Err(why) if why.kind() == ErrorKind::ConnectionReset => return Ok(Some(0)),
+            read => return read.map(Some),
+        }
     }
+    Ok(None)
 }
 
 /// False where the peer did not take all of it by the deadline.

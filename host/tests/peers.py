@@ -1,4 +1,5 @@
 """Peers that do not behave. The server answers others meanwhile, and keeps nothing of them."""
+import signal
 import socket
 import struct
 import threading
@@ -10,9 +11,9 @@ from held import Failed, hold, same, soon
 from program import KEY
 from wire import Client, Peer, code_of, number_of, pair
 
-IDLE = 1         # seconds after which the server closes a peer
-LATE = 4         # seconds by which it must have done so
-PATIENT = .9     # seconds within which others are answered
+IDLE = 2         # seconds after which the server closes a peer
+LATE = 6         # seconds by which it must have done so
+PATIENT = 1.8    # seconds within which others are answered
 GROWTH = 16384   # kB that the server may have grown by
 
 
@@ -184,4 +185,23 @@ def admitted(server, box):
         return None
 
 
-TESTS = [peers, crowd]
+def paused(site):
+    """A server that is stopped and goes on (SIGSTOP, SIGCONT) keeps its connections, those that wait for a request and one amid a frame."""
+    path, box = site.format(blocks=4)
+    server = site.serve(path)
+    clients = [Client(server.address, box) for _ in range(3)]
+    half = clients[0].request("NOOP").bytes()
+    clients[0].peer.send(half[:20])
+    for _ in range(5):
+        server.process.send_signal(signal.SIGSTOP)
+        time.sleep(.05)
+        server.process.send_signal(signal.SIGCONT)
+        time.sleep(.05)
+    clients[0].peer.send(half[20:])
+    clients[0].hear("a frame that was halved", clients[0].told(half))
+    for client in clients:
+        same("code of a NOOP after the stops", client.ask("NOOP"), 1)
+    return f"{len(clients)} connections of a server that was stopped 5 times are answered"
+
+
+TESTS = [peers, crowd, paused]
