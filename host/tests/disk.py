@@ -4,7 +4,7 @@ import threading
 
 import layout
 import model
-from held import Failed, hold, same
+from held import Failed, Lost, hold, same
 from messages import table_tree
 from program import within
 from wire import Client, all_scope, code_of, pair, setup, value_of
@@ -104,8 +104,12 @@ class Watcher(threading.Thread):
             self.failure = why
 
     def look(self):
-        """On one connection until it is closed, which a refusal of the disk may do."""
-        with Client(self.server.address, self.box) as client:
+        """On one connection until it is closed, which a refusal of the disk may do, at its first NOOP too."""
+        try:
+            client = Client(self.server.address, self.box)
+        except Lost:
+            return
+        with client:
             while not self.until.is_set():
                 client.peer.send(client.request("GET", pair(b"k")).bytes())
                 reply = client.peer.frame()
