@@ -1,3 +1,2 @@
 pub mod Permission
-pub mod Laws
 pub mod Verdict

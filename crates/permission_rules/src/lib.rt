@@ -50,8 +50,8 @@ pub fn permitted(
 {
     match needed(o) {
         Permission::Free => true,
-        Permission::Key(p) => permission::permits(device, place, protected, p, key),
-        Permission::Both => permission::permits_range(device, place, protected, start, end),
-        Permission::Any(p) => permission::permits_any(device, place, protected, p),
+        Permission::Key(p) => permission_check::permits(device, place, protected, p, key),
+        Permission::Both => permission_check::permits_range(device, place, protected, start, end),
+        Permission::Any(p) => permission_check::permits_any(device, place, protected, p),
     }
 }

@@ -72,7 +72,7 @@ fn judge(device: &Record, identity: u64, protected: bool, permission: u8, key: &
     match access::find_identity(device, identity) {
         Found::Nobody => Verdict::Nobody,
         Found::At(place) => {
-            if permission::permits(device, place, protected, permission, key) {
+            if permission_check::permits(device, place, protected, permission, key) {
                 return Verdict::Yes;
             }
             Verdict::No
@@ -89,7 +89,7 @@ fn judge_any(device: &Record, identity: u64, protected: bool, permission: u8) ->
     match access::find_identity(device, identity) {
         Found::Nobody => Verdict::Nobody,
         Found::At(place) => {
-            if permission::permits_any(device, place, protected, permission) {
+            if permission_check::permits_any(device, place, protected, permission) {
                 return Verdict::Yes;
             }
             Verdict::No
@@ -110,7 +110,7 @@ fn judge_range(
     match access::find_identity(device, identity) {
         Found::Nobody => Verdict::Nobody,
         Found::At(place) => {
-            if permission::permits_range(device, place, protected, start, end) {
+            if permission_check::permits_range(device, place, protected, start, end) {
                 return Verdict::Yes;
             }
             Verdict::No

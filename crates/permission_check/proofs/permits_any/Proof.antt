@@ -1,10 +1,10 @@
 use mathlib.Core.Path.{_∙_, sym, ap}
 use Rattle.access.specs.Table.{Acl}
 use Rattle.access.specs.Laws.{aclOf-at}
 use Rattle.permission.specs.Permission.{permitsAny}
 use borrow.Author.Needs.{needs}
-use Rattle.permission.proofs.permits_any.Statement.{statement}
-use Rattle.permission.proofs.permits_any.Tie as tie
+use Rattle.permission_check.proofs.permits_any.Statement.{statement}
+use Rattle.permission_check.proofs.permits_any.Tie as tie
 
 abbrev S : tie.After-acl-grants → tie.Start
 S c = c .before .before

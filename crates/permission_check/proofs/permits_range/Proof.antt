@@ -1,10 +1,10 @@
 use mathlib.Core.Path.{_∙_, refl, sym}
 use borrow.Author.Tests.{not-true, not-false}
 use Rattle.access.specs.Laws.{stops, goes}
 use Rattle.permission.specs.Permission.{permitsRange}
 use borrow.Author.Needs.{needs}
-use Rattle.permission.proofs.permits_range.Statement.{statement}
-use Rattle.permission.proofs.permits_range.Tie as tie
+use Rattle.permission_check.proofs.permits_range.Statement.{statement}
+use Rattle.permission_check.proofs.permits_range.Tie as tie
 
 permits-requires : tie.Need-permits-requires
 permits-requires c κs = search needs

@@ -1,7 +1,7 @@
 use borrow.Author.Tests.{eq-eqb, ne-eqb}
 use Rattle.permission.specs.Permission.{keyed}
-use Rattle.permission.proofs.key_counts.Statement.{statement}
-use Rattle.permission.proofs.key_counts.Tie as tie
+use Rattle.permission_check.proofs.key_counts.Statement.{statement}
+use Rattle.permission_check.proofs.key_counts.Tie as tie
 
 returns : tie.Need-returns
 unfolding keyed

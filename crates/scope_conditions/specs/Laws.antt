@@ -1,20 +1,19 @@
--- What the proofs of the code go by: the value in the key, and the test of a scope over the record's bytes.
+-- The value of a scope in the key.
 use mathlib.Core.Path.{_≡_, refl, sym, ap, ap₂, _∙_}
-use mathlib.Core.Bool.{Bool, true, false, not}
+use mathlib.Core.Bool.{Bool, true, false}
 use mathlib.Core.List.{List}
-use Prim.Native.Nat.{ℕ, zero, suc, _+_, _-_, _*_, _≤_, _<_}
+use Prim.Native.Nat.{ℕ, zero, suc, _+_, _-_, _≤_, _<_}
 use native.Mathlib.Nat.{not-suc-le-zero}
 use native.Mathlib.Numerals.{add-one}
 use native.Mathlib.Omega.{arith}
 use lib.Dec.{eqb}
 use lib.ListN.{length, take, drop, getD, drop-of-length-le}
 use lib.Seq.{drop-cons}
-use Rattle.access.specs.Table.{both, either, sameBytes, bit}
-use Rattle.access.specs.Record.{bytesAt, scopeAt}
+use Rattle.access.specs.Table.{both, sameBytes}
+use Rattle.access.specs.Record.{bytesAt}
 use Rattle.access.specs.Laws.{length-bytesAt}
-use Rattle.permission.specs.Permission.{fitsAt, fits, holds, grants}
+use Rattle.permission.specs.Permission.{fitsAt}
 
--- ---- the value in the key
 abbrev pub runs : List ℕ → ℕ → ℕ → List ℕ → ℕ → Bool
 runs l a n k p = sameBytes (bytesAt l a n) (take n (drop p k))
 
@@ -42,12 +41,3 @@ pub runs-end : (l : List ℕ) (a n : ℕ) (k : List ℕ) (p : ℕ) → n ≤ 0 �
 unfolding sameBytes bytesAt
 runs-end l a zero k p h = refl
 runs-end l a (suc n) k p h = absurd (omega arith)
-
--- ---- the verdict
-pub grant-test : (counts : Bool) (k : List ℕ) (protected : Bool) (p : ℕ) (l : List ℕ) (a : ℕ)
-    → grants counts k protected p (scopeAt l a)
-    ≡ both (bit (getD l (a + 2) 0 * 256 + getD l (a + 3) 0) p)
-    (both (either (not (not (eqb (getD l (a + 4) 0) 0))) protected)
-    (either (not counts) (fitsAt (bytesAt l (a + 8) (getD l (a + 1) 0)) (getD l a 0) k)))
-unfolding grants holds scopeAt fits
-grant-test counts k protected p l a = refl

@@ -4,11 +4,11 @@ use native.Mathlib.Omega.{arith}
 use borrow.Author.Tests.{eq-eqb, ne-eqb}
 use Rattle.access.specs.Record.{bytesAt}
 use Rattle.access.specs.Laws.{stops, goes}
 use Rattle.permission.specs.Permission.{fitsAt}
-use Rattle.permission.specs.Laws.{runs, fits-runs, runs-turn, runs-short, runs-end}
+use Rattle.scope_conditions.specs.Laws.{runs, fits-runs, runs-turn, runs-short, runs-end}
 use borrow.Author.Needs.{needs}
-use Rattle.permission.proofs.fits_at.Statement.{statement}
-use Rattle.permission.proofs.fits_at.Tie as tie
+use Rattle.scope_conditions.proofs.fits_at.Statement.{statement}
+use Rattle.scope_conditions.proofs.fits_at.Tie as tie
 
 abbrev Inv-loop : tie.InvT-loop
 Inv-loop l a n key o at₀ left₀ p₀ at left p = (at + left ≤ 2960) × (p + left ≤ 64 + n) × (runs l at left key p ≡ fitsAt (bytesAt l a n) o key)

@@ -8,11 +8,11 @@ use borrow.Author.Tests.{not-true, not-false}
 use Rattle.access.specs.Table.{both, either, bit}
 use Rattle.access.specs.Record.{scopeAt, bytesAt}
 use Rattle.access.specs.Laws.{stops, goes, stops-yes, goes-yes, scope-offset, scope-value}
 use Rattle.permission.specs.Permission.{grants, fitsAt}
-use Rattle.permission.specs.Laws.{grant-test}
+use Rattle.grants.specs.Laws.{grant-test}
 use borrow.Author.Needs.{needs}
-use Rattle.permission.proofs.scope_grants.Statement.{statement}
-use Rattle.permission.proofs.scope_grants.Tie as tie
+use Rattle.grants.proofs.scope_grants.Statement.{statement}
+use Rattle.grants.proofs.scope_grants.Tie as tie
 
 abbrev H : tie.After-holds → tie.Start
 H c = c .before .before .before .before .before .before

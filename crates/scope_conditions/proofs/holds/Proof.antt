@@ -1,7 +1,7 @@
 use Rattle.access.specs.Table.{bit}
 use borrow.Author.Needs.{needs}
-use Rattle.permission.proofs.holds.Statement.{statement}
-use Rattle.permission.proofs.holds.Tie as tie
+use Rattle.scope_conditions.proofs.holds.Statement.{statement}
+use Rattle.scope_conditions.proofs.holds.Tie as tie
 
 shr-result : tie.Need-shr-result
 shr-result c = search needs

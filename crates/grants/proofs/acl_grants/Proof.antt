@@ -5,10 +5,10 @@ use native.Mathlib.Omega.{arith}
 use Rattle.access.specs.Table.{all, scopeGood, any}
 use Rattle.access.specs.Record.{scopesAt, scopeAt, aclAt}
 use Rattle.access.specs.Laws.{stops-yes, goes-yes, both-fst, both-snd, scopes-test, any-turn, any-end, below-eight, place-of}
 use Rattle.permission.specs.Permission.{grants}
 use borrow.Author.Needs.{needs}
-use Rattle.permission.proofs.acl_grants.Statement.{statement}
-use Rattle.permission.proofs.acl_grants.Tie as tie
+use Rattle.grants.proofs.acl_grants.Statement.{statement}
+use Rattle.grants.proofs.acl_grants.Tie as tie
 
 abbrev Inv-loop : tie.InvT-loop
 Inv-loop l i counts key protected p a at₀ left₀ at left = (at + left * 72 ≤ 2960) × (all scopeGood (scopesAt l at left) ≡ true) × (any (grants counts key protected p) (scopesAt l at left) ≡ any (grants counts key protected p) (aclAt l (16 + i * 368) .scopes))

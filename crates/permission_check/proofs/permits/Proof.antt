@@ -4,10 +4,10 @@ use mathlib.Core.Bool.{Bool}
 use Rattle.access.specs.Table.{Acl, any}
 use Rattle.access.specs.Record.{aclAt}
 use Rattle.access.specs.Laws.{aclOf-at}
 use Rattle.permission.specs.Permission.{grants, permits}
 use borrow.Author.Needs.{needs}
-use Rattle.permission.proofs.permits.Statement.{statement}
-use Rattle.permission.proofs.permits.Tie as tie
+use Rattle.permission_check.proofs.permits.Statement.{statement}
+use Rattle.permission_check.proofs.permits.Tie as tie
 
 key-counts-requires : tie.Need-key-counts-requires
 key-counts-requires c κs = search needs

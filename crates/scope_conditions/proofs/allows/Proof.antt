@@ -2,8 +2,8 @@ use mathlib.Core.Path.{_≡_, refl, sym, ap, _∙_}
 use mathlib.Core.Bool.{Bool, true, false, not}
 use lib.Dec.{eqb}
 use Rattle.access.specs.Table.{either}
-use Rattle.permission.proofs.allows.Statement.{statement}
-use Rattle.permission.proofs.allows.Tie as tie
+use Rattle.scope_conditions.proofs.allows.Statement.{statement}
+use Rattle.scope_conditions.proofs.allows.Tie as tie
 
 allowed-yes : (b : Bool) → true ≡ either b true
 allowed-yes true = refl
