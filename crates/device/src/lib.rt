@@ -90,7 +90,7 @@ pub fn answer(
     if !store_check::check(store) {
         return Response::StoreBad;
     }
-    if !access::record_good(device) {
+    if !record_check::record_good(device) {
         return Response::DeviceBad;
     }
     let closed = connection.closed;

@@ -24,6 +24,6 @@ pub fn format(store: &mut [u8], device: &mut Record, key: &[u8]) -> Formatted
         return Formatted::KeyBad;
     }
     store_write::blank(store);
-    access_write::format_record(device, key);
+    record_format::format_record(device, key);
     Formatted::Made
 }

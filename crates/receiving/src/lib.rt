@@ -38,7 +38,7 @@ fn copy_key(device: &Record, place: usize, key: &mut [u8]) -> usize
     requires { ⌜ Placed (now device) place × (64 ≤ length (now key)) ⌝ }
     ensures { λ r. ⌜ (take r (now (key .exit)) ≡ aclOf (tableOf (now (device .entry))) place .key) × (r ≤ 64) ⌝ }
 {
-    writers::copy(key, access::key_of(device, place))
+    writers::copy(key, identities::key_of(device, place))
 }
 
 // Step 2 for an identity of the table, and what follows.
@@ -57,7 +57,7 @@ fn verify(
     requires { ⌜ (4096 ≤ length (now out)) × Good (now store) × (tableGood (tableOf (now device)) ≡ true) × (placeOf (tableOf (now device)) identity ≡ At place) × (length (now s) ≤ 8192) × (readingsGood (now readings) ≡ true) ⌝ }
     ensures { λ r. ⌜ Sent (respond box (lent (now (store .entry)) (now (device .entry)) (now (readings .entry)) (connectionOf connection)) (now (value .entry)) (verified hmac (box .keyOf (lent (now (store .entry)) (now (device .entry)) (now (readings .entry)) (connectionOf connection))) identity (now (sent .entry)) (now (s .entry)) (some (aclOf (tableOf (now (device .entry))) place .key)))) (r .written) (now (out .entry)) (now (out .exit)) (lent (now (store .exit)) (now (device .exit)) (now (readings .entry)) (connectionOf (r .connection))) ⌝ }
 {
-    if !signature::verify(access::key_of(device, place), s, sent) {
+    if !signature::verify(identities::key_of(device, place), s, sent) {
         return close(connection, out, 2);
     }
     let mut key = [0u8; 64];
@@ -99,7 +99,7 @@ pub fn respond(
     let hmac_end = hmac + m.hmac.len;
     let command = m.command.start;
     let command_end = command + m.command.len;
-    match access::find_identity(device, identity) {
+    match identities::find_identity(device, identity) {
         Found::At(place) => verify(
             store,
             device,

@@ -9,15 +9,15 @@ ghost use Rattle.scopes.specs.Stands.{StandsScope, StandsAcl, StandsSecurity, s
 ghost use Rattle.scopes.specs.Scope.{scopeTaken};
 ghost use Rattle.security.specs.Security.{Makes, scopesTaken, aclTaken, aclsTaken, putOne};
 use access::Record;
-use access::record_good;
-use access_write::add_acl;
-use access_write::add_scope;
 use access_write::clear_table;
+use acl_write::add_acl;
+use acl_write::add_scope;
 use lookups::parts::Part;
 use lookups::parts::num_of;
 use lookups::parts::open_at;
 use lookups::parts::part_of;
 use lookups::repeated::next_part;
+use record_check::record_good;
 use scopes::read_scope;
 use tree::Kind;
 

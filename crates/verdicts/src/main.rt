@@ -1,8 +1,8 @@
 // Prints the verdict for each cell of docs/VERDICTS.md, over a record that holds that page's table.
 use access::Found;
 use access::Record;
-use access_write::add_acl;
-use access_write::add_scope;
+use acl_write::add_acl;
+use acl_write::add_scope;
 use libc::STDOUT_FILENO;
 use permission::DELETE;
 use permission::RANGE;
@@ -66,10 +66,10 @@ enum Verdict {
 fn judge(device: &Record, identity: u64, protected: bool, permission: u8, key: &[u8]) -> Verdict
     requires { ⌜ permission < 16 ⌝ }
 {
-    if !access::record_good(device) {
+    if !record_check::record_good(device) {
         return Verdict::Bad;
     }
-    match access::find_identity(device, identity) {
+    match identities::find_identity(device, identity) {
         Found::Nobody => Verdict::Nobody,
         Found::At(place) => {
             if permission_check::permits(device, place, protected, permission, key) {
@@ -83,10 +83,10 @@ fn judge(device: &Record, identity: u64, protected: bool, permission: u8, key: &
 fn judge_any(device: &Record, identity: u64, protected: bool, permission: u8) -> Verdict
     requires { ⌜ permission < 16 ⌝ }
 {
-    if !access::record_good(device) {
+    if !record_check::record_good(device) {
         return Verdict::Bad;
     }
-    match access::find_identity(device, identity) {
+    match identities::find_identity(device, identity) {
         Found::Nobody => Verdict::Nobody,
         Found::At(place) => {
             if permission_check::permits_any(device, place, protected, permission) {
@@ -104,10 +104,10 @@ fn judge_range(
     start: &[u8],
     end: &[u8],
 ) -> Verdict {
-    if !access::record_good(device) {
+    if !record_check::record_good(device) {
         return Verdict::Bad;
     }
-    match access::find_identity(device, identity) {
+    match identities::find_identity(device, identity) {
         Found::Nobody => Verdict::Nobody,
         Found::At(place) => {
             if permission_check::permits_range(device, place, protected, start, end) {
