@@ -26,7 +26,7 @@ pub fn format(store: &mut [u8], device: &mut Record, key: &[u8]) -> u32
 pub fn connect(connection: &mut Bytes, number: i64, protected: u8)
     ensures { λ _. ⌜ now (connection .exit) ≡ connectedBytes (wordOf number) (not (eqb protected 0)) ⌝ }
 {
-    connection_bytes::connect(connection, integers::word(number), protected != 0);
+    connection_write::connect(connection, integers::word(number), protected != 0);
 }
 
 // The number of a response; where it is an answer, what changed of the connection, and the counts.
@@ -46,7 +46,7 @@ pub fn note(connection: &mut Bytes, counts: &mut [u64; 2], r: Response) -> u32
             connection: after,
         } => {
             *counts = [taken as u64, written as u64];
-            connection_bytes::update(connection, after);
+            connection_write::update(connection, after);
             0
         }
     }

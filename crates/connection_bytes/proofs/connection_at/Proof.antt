@@ -1,8 +1,17 @@
+use Prim.Native.Nat.{ℕ}
+use mathlib.Core.Path.{_≡_}
+use mathlib.Core.List.{List}
 use denote.Ref.{now}
-use Rattle.connection_bytes.proofs.Steps.{held}
+use Rattle.tree.specs.Tree.{guard}
+use Rattle.access.specs.Record.{wordAt}
+use Rattle.connection_bytes.specs.Layout.{yes, connectionAt}
 use borrow.Author.Needs.{needs}
 use Rattle.connection_bytes.proofs.connection_at.Statement.{statement}
 use Rattle.connection_bytes.proofs.connection_at.Tie as tie
+
+held : (l : List ℕ) {n q : ℕ} → n ≡ wordAt l 0 → q ≡ wordAt l 16
+    → record { number = n; protected = yes l 8; closed = yes l 9; last = guard (yes l 10) q } ≡ connectionAt l
+held l e f = λ i. record { number = e i; protected = yes l 8; closed = yes l 9; last = guard (yes l 10) (f i) }
 
 word-at-requires : tie.Need-word-at-requires
 word-at-requires c κs = search needs

@@ -1,7 +1,7 @@
-use Rattle.connection_bytes.proofs.Steps.{word-stored, new-stored}
+use Rattle.connection_write.proofs.Steps.{word-stored, new-stored}
 use borrow.Author.Needs.{needs}
-use Rattle.connection_bytes.proofs.connect.Statement.{statement}
-use Rattle.connection_bytes.proofs.connect.Tie as tie
+use Rattle.connection_write.proofs.connect.Statement.{statement}
+use Rattle.connection_write.proofs.connect.Tie as tie
 
 put-word-requires : tie.Need-put-word-requires
 put-word-requires c κs = search needs

@@ -1,9 +1,9 @@
 use denote.Ref.{now}
 use Rattle.connections.specs.Means.{connectionOf}
-use Rattle.connection_bytes.proofs.Steps.{both-written}
+use Rattle.connection_write.proofs.Steps.{both-written}
 use borrow.Author.Needs.{needs}
-use Rattle.connection_bytes.proofs.update.Statement.{statement}
-use Rattle.connection_bytes.proofs.update.Tie as tie
+use Rattle.connection_write.proofs.update.Statement.{statement}
+use Rattle.connection_write.proofs.update.Tie as tie
 
 hear-requires : tie.Need-hear-requires
 hear-requires c κs = search needs

@@ -1,8 +1,8 @@
 use Rattle.connection_bytes.specs.Layout.{heardBytes}
-use Rattle.connection_bytes.proofs.Steps.{word-stored}
+use Rattle.connection_write.proofs.Steps.{word-stored}
 use borrow.Author.Needs.{needs}
-use Rattle.connection_bytes.proofs.accept.Statement.{statement}
-use Rattle.connection_bytes.proofs.accept.Tie as tie
+use Rattle.connection_write.proofs.accept.Statement.{statement}
+use Rattle.connection_write.proofs.accept.Tie as tie
 
 element-write-bytes : tie.Need-element-write-bytes
 element-write-bytes c = search needs

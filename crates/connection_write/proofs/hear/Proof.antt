@@ -1,10 +1,10 @@
 use denote.Ref.{now}
 use mathlib.Core.Path.{sym, _∙_}
 use borrow.Author.Tests.{not-true, not-false}
-use Rattle.connection_bytes.proofs.Steps.{none-heard, heard-before, heard-now}
+use Rattle.connection_write.proofs.Steps.{none-heard, heard-before, heard-now}
 use borrow.Author.Needs.{needs}
-use Rattle.connection_bytes.proofs.hear.Statement.{statement}
-use Rattle.connection_bytes.proofs.hear.Tie as tie
+use Rattle.connection_write.proofs.hear.Statement.{statement}
+use Rattle.connection_write.proofs.hear.Tie as tie
 
 returns : tie.Need-returns
 returns c = let z = c .before .args in none-heard (now (z .bytes)) (z .seen) (z .last) (not-true _ (c .if1 .taken))

@@ -1,8 +1,8 @@
 use denote.Ref.{now}
-use Rattle.connection_bytes.proofs.Steps.{unseen, seen}
+use Rattle.connection_write.proofs.Steps.{unseen, seen}
 use borrow.Author.Needs.{needs}
-use Rattle.connection_bytes.proofs.is_last.Statement.{statement}
-use Rattle.connection_bytes.proofs.is_last.Tie as tie
+use Rattle.connection_write.proofs.is_last.Statement.{statement}
+use Rattle.connection_write.proofs.is_last.Tie as tie
 
 element-copy-out-if1 : tie.Need-element-copy-out-if1
 element-copy-out-if1 c = search needs

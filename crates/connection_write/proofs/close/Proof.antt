@@ -1,9 +1,9 @@
 use denote.Ref.{now}
 use borrow.Author.Tests.{not-true, not-false}
-use Rattle.connection_bytes.proofs.Steps.{stays-open, closed-before, closed-now}
+use Rattle.connection_write.proofs.Steps.{stays-open, closed-before, closed-now}
 use borrow.Author.Needs.{needs}
-use Rattle.connection_bytes.proofs.close.Statement.{statement}
-use Rattle.connection_bytes.proofs.close.Tie as tie
+use Rattle.connection_write.proofs.close.Statement.{statement}
+use Rattle.connection_write.proofs.close.Tie as tie
 
 returns : tie.Need-returns
 returns c = let z = c .before .args in stays-open (now (z .bytes)) (z .closed) (not-true _ (c .if1 .taken))

@@ -13,7 +13,7 @@ use Rattle.tree.specs.Tree.{guard}
 use Rattle.access.specs.Record.{wordAt, halfBytes, wordBytes, flag}
 use Rattle.record_bytes.specs.Wrote.{Wrote, put}
 use Rattle.protocol.specs.State.{Connection}
-use Rattle.connection_bytes.specs.Layout.{yes, connectionAt, connectedBytes, isLast, heardBytes, hears, closes, becomes}
+use Rattle.connection_bytes.specs.Layout.{connectionAt, connectedBytes, isLast, heardBytes, hears, closes, becomes}
 
 pub word-stored : {a b : ℕ} {l m : List ℕ} (w : ℕ) → Wrote a b (wordBytes w) l m → m ≡ sets l a (wordBytes w)
 unfolding put
@@ -27,10 +27,6 @@ unfolding connectedBytes wordBytes halfBytes
 new-stored n p e g = ap₂ (λ (k : List ℕ) (x : ℕ). set k 8 x) e g
 
 module _ (l : List ℕ) where
-  pub held : {n q : ℕ} → n ≡ wordAt l 0 → q ≡ wordAt l 16
-      → record { number = n; protected = yes l 8; closed = yes l 9; last = guard (yes l 10) q } ≡ connectionAt l
-  held e f = λ i. record { number = e i; protected = yes l 8; closed = yes l 9; last = guard (yes l 10) (f i) }
-
   -- the last sequence
   pub unseen : (q : ℕ) → getD l 10 0 ≡ 0 → false ≡ isLast (connectionAt l .last) q
   unseen q z = sym (ap (λ (b : Bool). isLast (guard (not b) (wordAt l 16)) q) (eq-eqb (getD l 10 0) 0 z))
