@@ -20,7 +20,8 @@ use Rattle.protocol.specs.Command.{orElse}
 use Rattle.protocol.specs.Judge.{algorithmsGood, broken, changeGood, deleteBy, entryOf, entryThere, fault, isEmpty, keyValueGood, keyValueIn, keysOf, logged, noKeyValue, noRange, present, put, range, rangeGood, rangeIn, secure, securityGood, setUp, shown, step10, succeeds, typesGood, versionShown}
 use Rattle.body_rules.specs.Passed.{put-passed, range-passed}
 use Rattle.requests.specs.declared.Body.{Body}
-use Rattle.requests.specs.Views.{bodyView, keyValueView, rangeView}
+use Rattle.request_parts.specs.Views.{keyValueView, rangeView}
+use Rattle.requests.specs.Views.{bodyView}
 use Rattle.scopes.specs.Stands.{aclsIn}
 use Rattle.log_types.specs.Types.{typesIn}
 use Rattle.sending.specs.declared.Address.{Address}

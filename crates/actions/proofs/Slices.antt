@@ -10,8 +10,8 @@ use Rattle.protocol.specs.Command.{orElse, flag}
 use Rattle.protocol.specs.Judge.{keyValueGood, newEntry}
 use Rattle.operations.specs.Given.{Deletes, Puts}
 use Rattle.operations.specs.Changes.{put-fits}
-use Rattle.requests.specs.declared.KeyValue.{KeyValue}
-use Rattle.requests.specs.Views.{KeyValueLies, keyValueView}
+use Rattle.request_parts.specs.declared.KeyValue.{KeyValue}
+use Rattle.request_parts.specs.Views.{KeyValueLies, keyValueView}
 use Rattle.showing.specs.Slices.{cutAt, cut-part}
 
 module _ {s : List ℕ} {k : KeyValue} (h : KeyValueLies s k) where

@@ -14,9 +14,9 @@ use Rattle.protocol.specs.Command as c
 use Rattle.protocol.specs.Command.{orElse}
 use Rattle.protocol.specs.Judge.{present, keyValueGood, changeGood, securityGood, algorithmsGood}
 use Rattle.body_rules.specs.Given.{securityFault, Lengths, RangeLengths}
-use Rattle.requests.specs.Views.{keyValueView, rangeView, KeyValueLies, RangeLies}
-use Rattle.requests.specs.declared.KeyValue.{KeyValue}
-use Rattle.requests.specs.declared.Range.{Range}
+use Rattle.request_parts.specs.Views.{keyValueView, rangeView, KeyValueLies, RangeLies}
+use Rattle.request_parts.specs.declared.KeyValue.{KeyValue}
+use Rattle.request_parts.specs.declared.Range.{Range}
 
 -- a part that must be there
 module _ {A : Type 0} (f : A → Bool) (b : Bool) (x : A) where

@@ -25,8 +25,8 @@ use Rattle.protocol.specs.Reply.{commandTree, signedReply}
 use Rattle.protocol.specs.Reading.{decoded}
 use Rattle.protocol.specs.Answer.{Reply, reply, respond}
 use Rattle.protocol.specs.Box.{box, aclAt, decide, invalid, judged, sequenceOf, told, typeOf}
-use Rattle.requests.specs.declared.Header.{Header}
-use Rattle.requests.specs.Views.{headerView}
+use Rattle.request_parts.specs.declared.Header.{Header}
+use Rattle.request_parts.specs.Views.{headerView}
 use Rattle.encoding.specs.Basics.{never}
 use Rattle.judgement.specs.Given.{Heard, headerFault, headerThere, idIn, sequenceIn}
 use Rattle.judgement.specs.Steps.{judge-by, served, rest, sequenceHeard, typeIn}

@@ -4,7 +4,8 @@ use Prim.Native.Nat.{ℕ}
 use Rattle.tree.specs.Tree.{guard}
 use Rattle.protocol.specs.Command as c
 use Rattle.requests.specs.declared.Request.{Request}
-use Rattle.requests.specs.Views.{headerView, bodyView}
+use Rattle.request_parts.specs.Views.{headerView}
+use Rattle.requests.specs.Views.{bodyView}
 
 abbrev pub commandIn : List ℕ → Request → c.Command
 commandIn s q = record { header = guard (q .headed) (headerView (q .header)); body = bodyView s (q .body) }

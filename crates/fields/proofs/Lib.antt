@@ -1,5 +1,3 @@
-pub mod Bits
-pub mod Judging
 pub mod Walking
 pub mod Storing
 pub mod Nesting

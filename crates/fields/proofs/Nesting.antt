@@ -9,21 +9,22 @@ use mathlib.Core.Bool.{Bool, true, false}
 use lib.ListN.{length, take, drop, length-take}
 use Rattle.wire.specs.Reader.{choose}
 use Rattle.wire.specs.Wire.{Value, Field, field, readField, fieldsOf}
-use Rattle.wire.specs.FieldAnswer.{meansFound, endsFound, nextIn}
-use Rattle.wire.specs.declared.field.Found.{Found}
+use Rattle.wire_fields.specs.FieldAnswer.{meansFound, endsFound, nextIn}
+use Rattle.wire_fields.specs.declared.Found.{Found}
 use Rattle.tree.specs.Rules.{ruleOf, strictOf}
 use Rattle.tree.specs.Tree.{mapO, thenO, isSome, Content, cInt, cRaw, cFix, cMsg, Item, item, decode, find, add, byRule, step, items, itemsO, level}
 use Rattle.tree.specs.Tree.{Tree, sub, openOne, openAll, listed}
 use Rattle.tree.specs.Depth.{listed-opens}
-use Rattle.fields.specs.Judged.{meansTaken, insideTaken, Marks, Takes, Judges}
+use Rattle.field_values.specs.Taken.{meansTaken, insideTaken}
+use Rattle.field_rules.specs.Judged.{Marks, Takes, Judges}
 use Rattle.fields.specs.Nested.{opensTaken}
 use Rattle.tree.specs.declared.Kind.{Kind}
 use Rattle.tree.specs.declared.Rule.{Rule}
 use Rattle.tree.specs.declared.Rule.the-variants.{Unlisted, Refused, Single, Repeated}
-use Rattle.fields.specs.declared.judge.Taken.{Taken}
-use Rattle.fields.specs.declared.judge.Taken.the-variants.{Number, Slice, Fixed, Inside, Wrong}
-use Rattle.fields.specs.declared.judge.Judged.{Judged}
-use Rattle.fields.specs.declared.judge.Judged.the-variants.{Refuse, Skip, Take}
+use Rattle.field_values.specs.declared.Taken.{Taken}
+use Rattle.field_values.specs.declared.Taken.the-variants.{Number, Slice, Fixed, Inside, Wrong}
+use Rattle.field_rules.specs.declared.Judged.{Judged}
+use Rattle.field_rules.specs.declared.Judged.the-variants.{Refuse, Skip, Take}
 use Rattle.fields.proofs.Storing.{no-marks}
 use Rattle.fields.proofs.Walking.{Walk, walk-start, walk-end, walk-none, walk-refuse, walk-on}
 

@@ -11,21 +11,22 @@ use lib.Dec.{eqb}
 use borrow.Author.Tests.{eqb-true, eqb-false}
 use Rattle.wire.specs.Reader.{choose}
 use Rattle.wire.specs.Wire.{readField}
-use Rattle.wire.specs.FieldAnswer.{meansFound, endsFound, nextIn}
-use Rattle.wire.specs.declared.field.Found.{Found}
+use Rattle.wire_fields.specs.FieldAnswer.{meansFound, endsFound, nextIn}
+use Rattle.wire_fields.specs.declared.Found.{Found}
 use Rattle.tree.specs.Rules.{ruleOf}
 use Rattle.tree.specs.Tree.{Content, cInt, cRaw, cFix, cMsg, Item, item, find, add, level}
-use Rattle.fields.specs.Judged.{meansTaken, insideTaken, isSingle, Marks, Takes, Judges}
+use Rattle.field_values.specs.Taken.{meansTaken, insideTaken}
+use Rattle.field_rules.specs.Judged.{isSingle, Marks, Takes, Judges}
 use Rattle.fields.specs.Slots.{Sized, placeOf, Shows, Holds, Tells}
 use Rattle.tree.specs.declared.Kind.{Kind}
-use Rattle.fields.specs.declared.judge.Taken.{Taken}
-use Rattle.fields.specs.declared.judge.Taken.the-variants.{Number, Slice, Fixed, Inside, Wrong}
-use Rattle.fields.specs.declared.judge.Judged.{Judged}
-use Rattle.fields.specs.declared.judge.Judged.the-variants.{Refuse, Skip, Take}
+use Rattle.field_values.specs.declared.Taken.{Taken}
+use Rattle.field_values.specs.declared.Taken.the-variants.{Number, Slice, Fixed, Inside, Wrong}
+use Rattle.field_rules.specs.declared.Judged.{Judged}
+use Rattle.field_rules.specs.declared.Judged.the-variants.{Refuse, Skip, Take}
 use Rattle.fields.specs.declared.slots.Place.{Place}
 use Rattle.fields.specs.declared.slots.Slots.{Slots}
-use Rattle.fields.proofs.Bits.{no-bit}
-use Rattle.fields.proofs.Judging.{orElse, find-last}
+use Rattle.field_rules.proofs.Bits.{no-bit}
+use Rattle.field_rules.proofs.Judging.{orElse, find-last}
 use Rattle.fields.proofs.Walking.{Walk, walk-start, walk-end, walk-none, walk-refuse, walk-on}
 
 nothing-some : {A B : Type 0} {a : A} → _≡_ {A = Option A} none (some a) → B

@@ -7,11 +7,11 @@ use mathlib.Core.Option.{Option, none, some}
 use lib.ListN.{length, drop, drop-of-length-le}
 use Rattle.wire.specs.Wire.{Field, readField, fieldsOf, consO}
 use Rattle.wire.specs.WireLaws.{fields-front}
-use Rattle.wire.specs.FieldAnswer.{meansFound, endsFound, nextIn}
-use Rattle.wire.specs.declared.field.Found.{Found}
-use Rattle.wire.proofs.FieldPlaces.{fields-fail-at, fields-end, found-got, found-none, found-in}
+use Rattle.wire_fields.specs.FieldAnswer.{meansFound, endsFound, nextIn}
+use Rattle.wire_fields.specs.declared.Found.{Found}
+use Rattle.wire_fields.proofs.FieldPlaces.{fields-fail-at, fields-end, found-got, found-none, found-in}
 use Rattle.tree.specs.Tree.{Item, step, items, itemsO, level, thenO}
-use Rattle.fields.specs.Judged.{fieldIn}
+use Rattle.field_rules.specs.Judged.{fieldIn}
 use Rattle.tree.specs.declared.Kind.{Kind}
 
 items-front : (k : Kind) (f : Field) (o : Option (List Field)) (acc : List Item) → itemsO k (consO f o) acc ≡ thenO (step k f acc) (λ a. itemsO k o a)

@@ -4,8 +4,8 @@ use mathlib.Core.List.{List}
 use mathlib.Core.Bool.{Bool, true, false}
 use lib.ListN.{take, drop}
 use Rattle.tree.specs.Tree.{isSome, listed}
-use Rattle.fields.specs.declared.judge.Taken.{Taken}
-use Rattle.fields.specs.declared.judge.Taken.the-variants.{Number, Slice, Fixed, Inside, Wrong}
+use Rattle.field_values.specs.declared.Taken.{Taken}
+use Rattle.field_values.specs.declared.Taken.the-variants.{Number, Slice, Fixed, Inside, Wrong}
 
 abbrev pub opensTaken : List ℕ → Taken → Bool
 opensTaken s (Number v) = true

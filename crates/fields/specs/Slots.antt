@@ -7,10 +7,10 @@ use mathlib.Core.Bool.{true, false}
 use lib.ListN.{length, take, drop, getD}
 use Rattle.tree.specs.Rules.{ruleOf}
 use Rattle.tree.specs.Tree.{Content, cInt, cRaw, cFix, cMsg, Item, find}
-use Rattle.fields.specs.Judged.{isSingle, Marks}
+use Rattle.field_rules.specs.Judged.{isSingle, Marks}
 use Rattle.tree.specs.declared.Kind.{Kind}
-use Rattle.fields.specs.declared.judge.Taken.{Taken}
-use Rattle.fields.specs.declared.judge.Taken.the-variants.{Number, Slice, Fixed, Inside, Wrong}
+use Rattle.field_values.specs.declared.Taken.{Taken}
+use Rattle.field_values.specs.declared.Taken.the-variants.{Number, Slice, Fixed, Inside, Wrong}
 use Rattle.fields.specs.declared.slots.Place.{Place}
 use Rattle.fields.specs.declared.slots.Slots.{Slots}
 

@@ -1,4 +1,3 @@
 // The listed fields of a message, at every depth.
-pub mod judge;
 pub mod nested;
 pub mod slots;

@@ -1,14 +1,14 @@
 // Messages inside messages.
 ghost use mathlib.Core.Path.{_≡_};
 ghost use Rattle.tree.specs.Tree.{isSome, listed};
-ghost use Rattle.fields.specs.Judged.{insideTaken};
+ghost use Rattle.field_values.specs.Taken.{insideTaken};
 ghost use Rattle.fields.specs.Nested.{opensTaken};
-use crate::judge::Judged;
-use crate::judge::Taken;
-use crate::judge::judge;
+use field_rules::Judged;
+use field_rules::judge;
+use field_values::Taken;
 use tree::Kind;
-use wire::field::next_of;
-use wire::field::read_field;
+use wire_fields::next_of;
+use wire_fields::read_field;
 
 // Whether a message of a kind decodes, with the messages inside it, at every depth: one pass.
 pub fn reads(s: &[u8], kind: Kind) -> bool

@@ -3,12 +3,12 @@ ghost use mathlib.Core.Path.{_≡_};
 ghost use mathlib.Core.Bool.{false};
 ghost use Rattle.tree.specs.Tree.{level};
 ghost use Rattle.fields.specs.Slots.{placeOf, Tells};
-use crate::judge::Judged;
-use crate::judge::Taken;
-use crate::judge::judge;
+use field_rules::Judged;
+use field_rules::judge;
+use field_values::Taken;
 use tree::Kind;
-use wire::field::next_of;
-use wire::field::read_field;
+use wire_fields::next_of;
+use wire_fields::read_field;
 
 // Bit n of `has`: number n is there. Its number, or where its bytes start, and how many they are, stand at place n.
 pub struct Slots {

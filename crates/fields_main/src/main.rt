@@ -1,14 +1,14 @@
 // Reads messages, one to a line of its input: the kind and the bytes in hex. Prints the listed fields of each, or 'refused'.
-use fields::judge::Judged;
-use fields::judge::Taken;
-use fields::judge::judge;
+use field_rules::Judged;
+use field_rules::judge;
+use field_values::Taken;
 use fields::nested::reads;
 use integers::signed;
 use libc::STDIN_FILENO;
 use libc::STDOUT_FILENO;
 use tree::Kind;
-use wire::field::next_of;
-use wire::field::read_field;
+use wire_fields::next_of;
+use wire_fields::read_field;
 use words::part;
 use words::place_of;
 use words::unhex;

@@ -9,11 +9,11 @@ use lib.Dec.{eqb}
 use Rattle.tree.specs.declared.Kind.the-variants as kind
 use Rattle.access.specs.Table.{both, all}
 use Rattle.lookups.specs.Views.{bytesAt}
-use Rattle.lookups.specs.Values.{partsIn, partsOf, NextPartIs}
-use Rattle.lookups.specs.RepeatedLaws.{treesOf}
+use Rattle.repeated_fields.specs.Values.{partsIn, partsOf, NextPartIs}
+use Rattle.repeated_fields.specs.RepeatedLaws.{treesOf}
 use Rattle.lookups.specs.declared.parts.Part.{Part}
-use Rattle.lookups.specs.declared.repeated.NextPart.{NextPart}
-use Rattle.lookups.proofs.Seeking.{no-values}
+use Rattle.repeated_fields.specs.declared.NextPart.{NextPart}
+use Rattle.repeated_fields.proofs.Seeking.{no-values}
 use Rattle.protocol.specs.Command.{Acl, mapL, aclOf}
 use Rattle.protocol.specs.Judge.{algorithmsGood}
 use Rattle.scopes.specs.Stands.{StandsSecurity, aclIn, aclsIn}

@@ -5,7 +5,7 @@ ghost use Rattle.scopes.specs.Stands.{StandsAcl, StandsSecurity, aclIn, aclsIn}
 use lookups::parts::Part;
 use lookups::parts::num_of;
 use lookups::parts::open_at;
-use lookups::repeated::next_part;
+use repeated_fields::next_part;
 use requests::numbers::number_or;
 use tree::Kind;
 

@@ -45,7 +45,7 @@ fn push_capacity(out: &mut [u8], at: usize, store: &[u8]) -> usize
     let all = store.len() / 512;
     let used = store::count(store);
     let full = binary32::portion_full(used, all);
-    let a = field_writers::push_float(out, at, 5, full);
+    let a = bytes_field_writers::push_float(out, at, 5, full);
     let b = field_writers::push_int(out, a, 4, 512 * (all as u64));
     field_writers::push_head(out, b, 4, at - b)
 }

@@ -17,7 +17,7 @@ fn push_sent(out: &mut [u8], at: usize, value: Sent) -> usize
     ensures { λ r. ⌜ Pushed r at (encode (fixO 2 (mapO floatBytes (sentBits value)) done)) (now (out .entry)) (now (out .exit)) × (at ≤ r + 9) ⌝ }
 {
     match value {
-        Sent::Bits(bits) => field_writers::push_float(out, at, 2, bits),
+        Sent::Bits(bits) => bytes_field_writers::push_float(out, at, 2, bits),
         Sent::Omitted => at,
     }
 }
@@ -34,10 +34,10 @@ fn push_sample(
     requires { ⌜ Placed (now readings) place × (n < 2 ^ 29) × (55 ≤ at) × (at ≤ length (now out)) ⌝ }
     ensures { λ r. ⌜ Pushed r at (lenField n (encode (sampleTree (sampleOf temperature (placeAt (now (readings .entry)) place))))) (now (out .entry)) (now (out .exit)) × (at ≤ r + 55) ⌝ }
 {
-    let value = readings::value_at(readings, place, temperature);
+    let value = reading_samples::value_at(readings, place, temperature);
     let a = push_sent(out, at, value);
-    let name = readings::name_of(readings, place);
-    let b = field_writers::push_raw(out, a, 1, name);
+    let name = reading_samples::name_of(readings, place);
+    let b = bytes_field_writers::push_raw(out, a, 1, name);
     field_writers::push_head(out, b, n, at - b)
 }
 

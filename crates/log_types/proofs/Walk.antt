@@ -15,11 +15,11 @@ use Rattle.tree.specs.declared.Names.the-variants.{LogType}
 use Rattle.access.specs.Table.{withBit, maskOf}
 use Rattle.access.specs.Mask.{mask-more}
 use Rattle.lookups.specs.Views.{Inside, bytesAt}
-use Rattle.lookups.specs.Values.{numbersIn, numbersOf, WellFramed, NextNumIs}
-use Rattle.lookups.specs.RepeatedLaws.{AllAmong, repeated-named, repeated-among, reads-framed}
+use Rattle.repeated_fields.specs.Values.{numbersIn, numbersOf, WellFramed, NextNumIs}
+use Rattle.repeated_fields.specs.RepeatedLaws.{AllAmong, repeated-named, repeated-among, reads-framed}
 use Rattle.lookups.specs.declared.parts.Part.{Part}
-use Rattle.lookups.specs.declared.repeated.NextNum.{NextNum}
-use Rattle.lookups.proofs.Seeking.{no-values}
+use Rattle.repeated_fields.specs.declared.NextNum.{NextNum}
+use Rattle.repeated_fields.proofs.Seeking.{no-values}
 use Rattle.log_types.specs.Types.{StandsLog, typesIn, TypesAre}
 
 -- the types so far, and those to come

@@ -6,8 +6,8 @@ ghost use Rattle.tree.specs.Tree.{among};
 ghost use Rattle.protocol.specs.Judge.{typesGood};
 ghost use Rattle.log_types.specs.Types.{StandsLog, typesIn, TypesAre};
 use lookups::parts::Part;
-use lookups::repeated::next_num;
 use permission_mask::with_bit;
+use repeated_fields::next_num;
 
 // Is this type in the set?
 pub fn asks(mask: u16, kind: u8) -> bool

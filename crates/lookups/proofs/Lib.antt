@@ -1,4 +1,2 @@
 pub mod Slotted
 pub mod Levels
-pub mod Seeking
-pub mod Nexts

@@ -11,7 +11,7 @@ use lib.Seq.{drop-drop, take-length}
 use Rattle.wire.specs.Wire.{Value, vint, v64, vlen, v32, fieldsOf, fieldsIn}
 use Rattle.tree.specs.Rules.{namesOf, ruleOf}
 use Rattle.tree.specs.Tree.{mapO, guard, isSome, among, Content, cInt, cRaw, cMsg, Item, isInt32, ofInt, ofBytes, ofFixed, decode, find, items, level, Tree, done, openAll, listedIn, listed, intAt, rawAt, subAt}
-use Rattle.fields.specs.Judged.{bit, isSingle}
+use Rattle.field_rules.specs.Judged.{bit, isSingle}
 use Rattle.fields.specs.Slots.{Sized, Holds, Tells, Shows}
 use Rattle.tree.specs.declared.Kind.{Kind}
 use Rattle.tree.specs.declared.Form.{Form}

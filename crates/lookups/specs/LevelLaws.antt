@@ -13,7 +13,7 @@ use Rattle.tree.specs.Rules.{ruleOf, strictOf}
 use Rattle.tree.specs.Tree.{mapO, thenO, guard, isSome, Content, cInt, cRaw, cFix, cMsg, Item, item, decode, find, add, byRule, step, items, itemsO, level}
 use Rattle.tree.specs.Tree.{Tree, done, int, raw, fix, sub, openOne, openAll, listed, later, intAt, rawAt, joinO, subAt}
 use Rattle.tree.specs.Depth.{listed-opens}
-use Rattle.fields.specs.Judged.{isSingle}
+use Rattle.field_rules.specs.Judged.{isSingle}
 use Rattle.tree.specs.declared.Kind.{Kind}
 use Rattle.tree.specs.declared.Form.{Form}
 use Rattle.tree.specs.declared.Rule.{Rule}

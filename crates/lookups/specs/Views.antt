@@ -7,7 +7,7 @@ use mathlib.Core.Bool.{Bool, true, false}
 use lib.ListN.{length, take, drop, getD}
 use Rattle.tree.specs.Rules.{ruleOf}
 use Rattle.tree.specs.Tree.{guard, isSome, level, Tree, done, listed, intAt, rawAt, subAt}
-use Rattle.fields.specs.Judged.{bit}
+use Rattle.field_rules.specs.Judged.{bit}
 use Rattle.fields.specs.Slots.{Tells}
 use Rattle.tree.specs.declared.Kind.{Kind}
 use Rattle.tree.specs.declared.Form.the-variants.{Int64, Int32, Named, Flag, Bytes, Opaque, Float, Nested}

@@ -1,3 +1,2 @@
-// What a message says of a number: a number, a part of the message, and the next of a repeated field.
+// What a message says of a number: a number, or a part of the message.
 pub mod parts;
-pub mod repeated;

@@ -3,7 +3,7 @@ ghost use Prim.Native.Nat.{_<_};
 ghost use Rattle.tree.specs.Tree.{level};
 ghost use Rattle.fields.specs.Slots.{Sized, Tells};
 ghost use Rattle.lookups.specs.Views.{bytesAt, Inside, SlotInside, NumIs, PartIs};
-use fields::judge::marked;
+use field_rules::marked;
 use fields::slots::Slots;
 use fields::slots::collect;
 use tree::Kind;

@@ -35,7 +35,7 @@ fn push_key(out: &mut [u8], at: usize, store: &[u8], i: usize) -> usize
     let e = store::entry_at(store, i);
     let start = e.key.start;
     let end = start + e.key.len;
-    field_writers::push_raw(out, at, 8, &store[start..end])
+    bytes_field_writers::push_raw(out, at, 8, &store[start..end])
 }
 
 // The keys of a run of places, in its order.

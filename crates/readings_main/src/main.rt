@@ -127,9 +127,9 @@ fn sweep(step: u32, count: u32) -> u32 {
 fn reading(s: &[u8], place: usize, temperature: bool)
     requires { ⌜ Placed (now s) place ⌝ }
 {
-    write(readings::name_of(s, place));
+    write(reading_samples::name_of(s, place));
     write(b" ");
-    show(readings::value_at(s, place, temperature));
+    show(reading_samples::value_at(s, place, temperature));
     write(b"\n");
 }
 

@@ -10,8 +10,9 @@ use Rattle.tree.specs.Tree.{Tree, done, int, raw}
 use Rattle.encoding.specs.Encode.{intField, head, lenField, encode}
 use Rattle.sha1.specs.Sha1.{Answer}
 use Rattle.signature.specs.Hmac.{hmac, hmacAnswer}
-use Rattle.writers.specs.Pushed.{Pushed, Starts, be32}
+use Rattle.writers.specs.Pushed.{Pushed, Starts}
 use Rattle.writers.specs.PushedLaws.{_onto_, again, pushed-sub, pushed-none, pushed-tail, pushed-whole, starts-again}
+use Rattle.word_writers.specs.Word.{be32}
 use Rattle.writers.specs.TreeParts.{raw-last, int-pushed, raw-done}
 use Rattle.protocol.specs.Frame.{be4, frame}
 use Rattle.protocol.specs.Reply.{statusTree, signedTree, closingCommand, signedReply, closingReply}

@@ -4,7 +4,8 @@ ghost use mathlib.Core.List.{_∷_, _++_};
 ghost use Prim.Native.Nat.{_+_, _≤_};
 ghost use lib.ListN.{length};
 ghost use Rattle.signature.specs.Hmac.{hmac as hmacOf};
-ghost use Rattle.writers.specs.Pushed.{Pushed, be32};
+ghost use Rattle.writers.specs.Pushed.{Pushed};
+ghost use Rattle.word_writers.specs.Word.{be32};
 ghost use Rattle.reply_frames.specs.Frames.{authBytes, Finished};
 use signature::Mac;
 
@@ -25,7 +26,7 @@ fn push_auth(out: &mut [u8], at: usize, identity: u64, digest: &[u8]) -> usize
     requires { ⌜ (length (now digest) ≤ 20) × (80 ≤ at) × (at ≤ length (now out)) ⌝ }
     ensures { λ r. ⌜ Pushed r at (authBytes identity (now (digest .entry))) (now (out .entry)) (now (out .exit)) × (at ≤ r + 80) ⌝ }
 {
-    let b = field_writers::push_raw(out, at, 2, digest);
+    let b = bytes_field_writers::push_raw(out, at, 2, digest);
     let c = field_writers::push_int(out, b, 1, identity);
     let d = field_writers::push_head(out, c, 5, at - c);
     field_writers::push_int(out, d, 4, 1)
@@ -36,8 +37,8 @@ pub fn push_prefix(out: &mut [u8], at: usize, message: usize, value: usize) -> u
     requires { ⌜ (9 ≤ at) × (at ≤ length (now out)) ⌝ }
     ensures { λ r. ⌜ Pushed r at (0x46 ∷ (be32 message ++ be32 value)) (now (out .entry)) (now (out .exit)) ⌝ }
 {
-    let a = writers::push_be32(out, at, value);
-    let b = writers::push_be32(out, a, message);
+    let a = word_writers::push_be32(out, at, value);
+    let b = word_writers::push_be32(out, a, message);
     writers::push_byte(out, b, 0x46)
 }
 

@@ -23,7 +23,7 @@ pub fn push_header(out: &mut [u8], at: usize, connection: u64, ack: Maybe, kind:
     ensures { λ r. ⌜ Pushed r at (lenField 1 (encode (headerTree connection (maybe ack) kind))) (now (out .entry)) (now (out .exit)) × (at ≤ r + 60) ⌝ }
 {
     let a = field_writers::push_int(out, at, 7, kind);
-    let b = field_writers::push_maybe(out, a, 6, ack);
+    let b = optional_field_writers::push_maybe(out, a, 6, ack);
     let c = field_writers::push_int(out, b, 3, connection);
     field_writers::push_head(out, c, 1, at - c)
 }
@@ -40,10 +40,10 @@ pub fn push_key_value(
     requires { ⌜ (length (now key) ≤ 64) × (length (now version) ≤ 16) × (length (now tag) ≤ 32) × (202 ≤ at) × (at ≤ length (now out)) ⌝ }
     ensures { λ r. ⌜ Pushed r at (bodyBytes (keyValue (now (key .entry)) (now (version .entry)) (now (tag .entry)) algorithm)) (now (out .entry)) (now (out .exit)) × (at ≤ r + 202) ⌝ }
 {
-    let a = field_writers::push_nonzero(out, at, 6, algorithm);
-    let b = field_writers::push_nonempty(out, a, 5, tag);
-    let c = field_writers::push_nonempty(out, b, 4, version);
-    let d = field_writers::push_nonempty(out, c, 3, key);
+    let a = optional_field_writers::push_nonzero(out, at, 6, algorithm);
+    let b = optional_field_writers::push_nonempty(out, a, 5, tag);
+    let c = optional_field_writers::push_nonempty(out, b, 4, version);
+    let d = optional_field_writers::push_nonempty(out, c, 3, key);
     let e = field_writers::push_head(out, d, 1, at - d);
     field_writers::push_head(out, e, 2, at - e)
 }

@@ -13,10 +13,10 @@ use Rattle.access.specs.Table.{both, either, all, within, named, withBit, maskO
 use Rattle.access.specs.Laws.{within-high}
 use Rattle.access.specs.Mask.{mask-more}
 use Rattle.lookups.specs.Views.{Inside, bytesAt}
-use Rattle.lookups.specs.Values.{numbersIn, WellFramed, NextNumIs}
-use Rattle.lookups.specs.RepeatedLaws.{repeated-ints, reads-framed}
+use Rattle.repeated_fields.specs.Values.{numbersIn, WellFramed, NextNumIs}
+use Rattle.repeated_fields.specs.RepeatedLaws.{repeated-ints, reads-framed}
 use Rattle.lookups.specs.declared.parts.Part.{Part}
-use Rattle.lookups.specs.declared.repeated.NextNum.{NextNum}
+use Rattle.repeated_fields.specs.declared.NextNum.{NextNum}
 use Rattle.protocol.specs.Command.{Scope}
 use Rattle.protocol.specs.Judge.{permissionsGood}
 use Rattle.scopes.specs.Stands.{StandsScope, scopeIn}

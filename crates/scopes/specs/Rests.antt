@@ -9,10 +9,10 @@ use Rattle.tree.specs.declared.Kind.{Kind}
 use Rattle.tree.specs.declared.Form.the-variants.{Nested}
 use Rattle.tree.specs.declared.Rule.the-variants.{Repeated}
 use Rattle.lookups.specs.Views.{Inside, bytesAt, treeOf}
-use Rattle.lookups.specs.Values.{partsIn, WellFramed, NextPartIs}
-use Rattle.lookups.specs.RepeatedLaws.{treesOf, AllRead, repeated-subs, repeated-reads, reads-framed}
+use Rattle.repeated_fields.specs.Values.{partsIn, WellFramed, NextPartIs}
+use Rattle.repeated_fields.specs.RepeatedLaws.{treesOf, AllRead, repeated-subs, repeated-reads, reads-framed}
 use Rattle.lookups.specs.declared.parts.Part.{Part}
-use Rattle.lookups.specs.declared.repeated.NextPart.{NextPart}
+use Rattle.repeated_fields.specs.declared.NextPart.{NextPart}
 use Rattle.protocol.specs.Command.{mapL}
 use Rattle.scopes.specs.Stands.{Stands}
 

@@ -14,9 +14,9 @@ use Rattle.tree.specs.declared.Form.the-variants.{Nested}
 use Rattle.tree.specs.declared.Rule.the-variants.{Repeated}
 use Rattle.access.specs.Table.{both, all, within}
 use Rattle.lookups.specs.Views.{bytesAt, treeOf}
-use Rattle.lookups.specs.Values.{NextPartIs}
+use Rattle.repeated_fields.specs.Values.{NextPartIs}
 use Rattle.lookups.specs.declared.parts.Part.{Part}
-use Rattle.lookups.specs.declared.repeated.NextPart.{NextPart}
+use Rattle.repeated_fields.specs.declared.NextPart.{NextPart}
 use Rattle.protocol.specs.Command.{mapL}
 use Rattle.scopes.specs.Stands.{Stands}
 use Rattle.scopes.specs.Laws.{both-false}

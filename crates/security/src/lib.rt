@@ -16,8 +16,8 @@ use lookups::parts::Part;
 use lookups::parts::num_of;
 use lookups::parts::open_at;
 use lookups::parts::part_of;
-use lookups::repeated::next_part;
 use record_check::record_good;
+use repeated_fields::next_part;
 use scopes::read_scope;
 use tree::Kind;
 

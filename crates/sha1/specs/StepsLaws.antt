@@ -1,4 +1,4 @@
--- What follows of the definitions of `Steps`: the rounds by their function, and the last blocks of a message. Assumes nothing.
+-- What follows of the definitions of `Steps`: the last blocks of a message. Assumes nothing.
 use mathlib.Core.Path.{_≡_, refl, sym, ap, ap₂, _∙_}
 use mathlib.Core.List.{List, _∷_, _++_, append-nil, append-assoc}
 use Prim.Native.Nat.{ℕ, zero, suc, _+_, _-_, _*_, _%_, _≤_, _<_}
@@ -7,51 +7,11 @@ use native.Mathlib.Nat.{zero-add}
 use native.Mathlib.Numerals.{add-one}
 use lib.ListN.{length, getD, take, drop, set, replicate, length-append, length-replicate, replicate-append-replicate, drop-of-length-le}
 use lib.Seq.{take-at, take-all, take-length, set-at, paste, paste-suc}
-use borrow.Author.Tests.{lt-ltb, le-ltb}
-use Rattle.sha1.specs.declared.State.{State}
-use Rattle.sha1.specs.Sha1.{Ch, Parity, Maj, f, K, turned, step, W, compress, be, zeros, pad, overall}
-use Rattle.sha1.specs.Sha1Laws.{rounds-more, be-length, pad-length, overall-one, overall-two}
-use Rattle.sha1.specs.Steps.{Advances, Twenty, markedBlock, sizedBlock}
-
-pub choice : Twenty Ch 0x5a827999 0
-unfolding f K
-choice = record { low = omega arith; function = λ t x y z h l. rw (lt-ltb t 20 l); constant = λ t h l. rw (lt-ltb t 20 l) }
-
-pub parity-20 : Twenty Parity 0x6ed9eba1 20
-unfolding f K
-parity-20 = record {
-  low = omega arith;
-  function = λ t x y z h l. rw (le-ltb t 20 h, lt-ltb t 40 l);
-  constant = λ t h l. rw (le-ltb t 20 h, lt-ltb t 40 l);
-}
-
-pub majority : Twenty Maj 0x8f1bbcdc 40
-unfolding f K
-majority = record {
-  low = omega arith;
-  function = λ t x y z h l. rw (le-ltb t 20 (omega arith), le-ltb t 40 h, lt-ltb t 60 l);
-  constant = λ t h l. rw (le-ltb t 20 (omega arith), le-ltb t 40 h, lt-ltb t 60 l);
-}
-
-pub parity-60 : Twenty Parity 0xca62c1d6 60
-unfolding f K
-parity-60 = record {
-  low = omega arith;
-  function = λ t x y z h l. rw (le-ltb t 20 (omega arith), le-ltb t 40 (omega arith), le-ltb t 60 h);
-  constant = λ t h l. rw (le-ltb t 20 (omega arith), le-ltb t 40 (omega arith), le-ltb t 60 h);
-}
-
--- one round more
-pub advances-more : {g : ℕ → ℕ → ℕ → ℕ} {k from : ℕ} → Twenty g k from → (t : ℕ) (w : List ℕ) (s v : State) → from ≤ t → t < from + 20
-    → Advances from t w s v → Advances from (t + 1) w s (turned (g (v .b) (v .c) (v .d)) k (getD w t 0) v)
-unfolding step
-advances-more {g} {k} {from} p t w s v low high so m h words e =
-    let q = p .low in
-    sym
-    (rounds-more m h t
-    ∙ ap (step t (W m t)) (sym (so m h words e))
-    ∙ ap₂ (λ n c. turned n c (W m t) v) (p .function t (v .b) (v .c) (v .d) low high) (p .constant t low high)
-    ∙ ap (λ x. turned (g (v .b) (v .c) (v .d)) k x v) (sym (words t (omega arith))))
+use Rattle.sha1_compression.specs.declared.State.{State}
+use Rattle.sha1_compression.specs.Compression.{compress}
+use Rattle.sha1.specs.Sha1.{be, zeros, pad, overall}
+use Rattle.sha1.specs.Sha1Laws.{be-length, pad-length, overall-one, overall-two}
+use Rattle.sha1.specs.Steps.{markedBlock, sizedBlock}
 
 -- the last bytes of a message and the padding are one block, or two
 marked-split : (rest : List ℕ) (p q : ℕ) → p + q ≡ 63 - length rest → markedBlock rest ≡ (rest ++ (0x80 ∷ replicate p 0)) ++ replicate q 0

@@ -20,8 +20,8 @@ use Rattle.protocol.specs.Command.{orElse, flag}
 use Rattle.protocol.specs.Judge.{keyValue, keysOf, range, shown, succeeds}
 use Rattle.ranges.specs.Range.{rangeWith}
 use Rattle.ranges.specs.RangeLaws.{keys-of}
-use Rattle.requests.specs.declared.Range.{Range}
-use Rattle.requests.specs.Views.{RangeLies, rangeView}
+use Rattle.request_parts.specs.declared.Range.{Range}
+use Rattle.request_parts.specs.Views.{RangeLies, rangeView}
 use Rattle.lookups.specs.Slices.{slice-at}
 
 -- n bytes from a on

@@ -1,7 +1,7 @@
 // GET, GETVERSION, GETNEXT, GETPREVIOUS and GETKEYRANGE: what the store has, shown in a reply.
 use queries::Shown;
-use requests::KeyValue;
-use requests::Range;
+use request_parts::KeyValue;
+use request_parts::Range;
 use requests::numbers::flag_of;
 use requests::numbers::number_or;
 use sending::Address;
@@ -19,7 +19,7 @@ ghost use Rattle.protocol.specs.State.{State, entries};
 ghost use Rattle.protocol.specs.Judge.{succeeds, shown, versionShown, entryOf, range, keysOf};
 ghost use Rattle.queries.specs.declared.Shown.the-variants.{Found};
 ghost use Rattle.queries.specs.Given.{PartsInside, Showing, entryShown};
-ghost use Rattle.requests.specs.Views.{KeyValueLies, RangeLies, keyValueView, rangeView};
+ghost use Rattle.request_parts.specs.Views.{KeyValueLies, RangeLies, keyValueView, rangeView};
 ghost use Rattle.showing.specs.Sought.{sought};
 ghost use Rattle.sending.specs.Sent.{Sent, replied};
 

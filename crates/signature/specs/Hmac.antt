@@ -5,10 +5,11 @@ use Prim.Native.Nat.{ℕ, _-_}
 use lib.Bits.{bitXor}
 use lib.Dec.{leb, eqb}
 use lib.ListN.{length, replicate}
-use Rattle.sha1.specs.declared.State.{State}
+use Rattle.sha1_compression.specs.declared.State.{State}
 use Rattle.signature.specs.declared.Mac.{Mac}
 use Rattle.signature.specs.declared.Mac.the-variants.{Made, KeyTooLong, TextTooLong}
-use Rattle.sha1.specs.Sha1.{pick, sha1Words, sha1, bytes, Answer}
+use Rattle.sha1_compression.specs.Compression.{pick}
+use Rattle.sha1.specs.Sha1.{sha1Words, sha1, bytes, Answer}
 
 -- §2, steps 1, 2 and 5: a key of at most 64 bytes with zeros up to 64, each byte XOR v
 unfoldable pub masked : ℕ → List ℕ → List ℕ

@@ -6,8 +6,9 @@ use Prim.Native.Nat.{ℕ, _≤_}
 use lib.Dec.{eqb, leb}
 use borrow.Author.Tests.{eq-eqb, eqb-true, le-leb}
 use lib.ListN.{length}
-use Rattle.sha1.specs.declared.State.{State}
-use Rattle.sha1.specs.Sha1.{pick, be, bytes, Answer}
+use Rattle.sha1_compression.specs.declared.State.{State}
+use Rattle.sha1_compression.specs.Compression.{pick}
+use Rattle.sha1.specs.Sha1.{be, bytes, Answer}
 use Rattle.signature.specs.Hmac.{hmac, hmacAnswer, sameBytes, verified}
 
 pub sameBytes-self : (xs : List ℕ) → sameBytes xs xs ≡ true

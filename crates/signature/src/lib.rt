@@ -3,10 +3,10 @@ ghost use mathlib.Core.Path.{_≡_};
 ghost use Prim.Native.Nat.{_≤_};
 ghost use lib.ListN.{length};
 ghost use Rattle.signature.specs.Hmac.{masked, keyedWords, hmacAnswer, macAnswer, sameBytes, verified};
-use sha1::State;
 use sha1::bytes;
 use sha1::hash;
 use sha1::hash_after;
+use sha1_compression::State;
 
 // A key of at most 64 bytes filled up with zeros, with v added to each byte bit by bit.
 fn key_block(key: &[u8], v: u8) -> [u8; 64]

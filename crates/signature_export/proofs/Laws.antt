@@ -3,7 +3,8 @@ use mathlib.Core.Path.{_≡_, refl}
 use mathlib.Core.List.{List}
 use Prim.Native.Nat.{ℕ}
 use lib.Dec.{eqb}
-use Rattle.sha1.specs.Sha1.{pick, Answer}
+use Rattle.sha1_compression.specs.Compression.{pick}
+use Rattle.sha1.specs.Sha1.{Answer}
 use Rattle.signature_export.specs.Written.{Written}
 
 -- from the answer a, which is b

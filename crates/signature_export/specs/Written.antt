@@ -3,7 +3,8 @@ use mathlib.Core.Path.{_≡_}
 use mathlib.Core.List.{List}
 use Prim.Native.Nat.{ℕ}
 use lib.Dec.{eqb}
-use Rattle.sha1.specs.Sha1.{pick, Answer}
+use Rattle.sha1_compression.specs.Compression.{pick}
+use Rattle.sha1.specs.Sha1.{Answer}
 
 -- the number of the answer, and its digest where there is one; else the lent bytes as they were
 pub record Written (a : Answer) (before : List ℕ) (r : ℕ) (after : List ℕ) : Type 0 where

@@ -1,7 +1,7 @@
 // SHA-1, HMAC and verification of published and outside vectors, a line for each.
 use libc::STDOUT_FILENO;
 use sha1::Digest;
-use sha1::State;
+use sha1_compression::State;
 use signature::Mac;
 
 fn digit(n: u8) -> u8 {

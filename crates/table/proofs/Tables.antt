@@ -1,13 +1,9 @@
--- The table's rule at a number, and whether an enum names a value, from the arm of a `match` that was taken.
+-- The table's rule at a number, from the arm of a `match` that was taken.
 use Prim.Native.Nat.{ℕ}
 use mathlib.Core.Path.{_≡_, refl, sym, ap₂}
-use mathlib.Core.List.{List, [], _∷_}
-use mathlib.Core.Bool.{false}
 use borrow.Author.Tests.{ne-eqb}
-use Rattle.tree.specs.Rules.{namesOf, Table, end, row, look, tableOf, ruleOf}
-use Rattle.tree.specs.Tree.{among}
+use Rattle.tree.specs.Rules.{Table, end, row, look, tableOf, ruleOf}
 use Rattle.tree.specs.declared.Kind.{Kind}
-use Rattle.tree.specs.declared.Names.{Names}
 use Rattle.tree.specs.declared.Rule.the-variants.{Unlisted}
 
 -- an arm with a number: the rule is the row's
@@ -25,18 +21,3 @@ off n A (row m r t) x = let i = off n (A × (n ≡ m → ⊥)) t x in (i .0 .0, 
 
 pub in-none : {k : Kind} (n : ℕ) (k' : Kind) → k ≡ k' → offs n (Unit {0}) (tableOf k') → Unlisted ≡ ruleOf k n
 in-none {k} n k' p h = rw p (off n (Unit {0}) (tableOf k') h .1)
-
--- the same of the values that an enum names
-pub in-name : {e e' : Names} {v m : ℕ} → e ≡ e' → v ≡ m → among m (namesOf e') ≡ among v (namesOf e)
-in-name p q = ap₂ (λ e v. among v (namesOf e)) (sym p) (sym q)
-
-abbrev pub offNames : ℕ → Type 0 → List ℕ → Type 0
-offNames v A [] = A
-offNames v A (n ∷ ns) = offNames v (A × (v ≡ n → ⊥)) ns
-
-off-names : (v : ℕ) (A : Type 0) (ns : List ℕ) → offNames v A ns → A × (false ≡ among v ns)
-off-names v A [] x = (x, refl)
-off-names v A (n ∷ ns) x = let i = off-names v (A × (v ≡ n → ⊥)) ns x in (i .0 .0, rw (ne-eqb v n (i .0 .1)) (i .1))
-
-pub no-name : {e : Names} (v : ℕ) (e' : Names) → e ≡ e' → offNames v (Unit {0}) (namesOf e') → false ≡ among v (namesOf e)
-no-name {e} v e' p h = rw p (off-names v (Unit {0}) (namesOf e') h .1)

@@ -1,2 +1,1 @@
 pub mod VarintPlaces
-pub mod FieldPlaces

@@ -5,4 +5,3 @@ pub mod WireLaws
 pub mod Varint
 pub mod VarintLaws
 pub mod VarintAnswer
-pub mod FieldAnswer

@@ -1,3 +1,2 @@
-// Varints and fields of the Protocol Buffers encoding.
-pub mod field;
+// Varints of the Protocol Buffers encoding, and the definitions of its fields.
 pub mod varint;

@@ -1,7 +1,7 @@
 -- What a writer does to a lent buffer.
-use Prim.Native.Nat.{ℕ, _+_, _/_, _%_, _^_, _≤_}
+use Prim.Native.Nat.{ℕ, _+_, _≤_}
 use mathlib.Core.Path.{_≡_}
-use mathlib.Core.List.{List, [], _∷_, _++_}
+use mathlib.Core.List.{List, _++_}
 use mathlib.Core.Option.{Option, none, some}
 use lib.ListN.{length, take, drop}
 use Rattle.writers.specs.declared.Maybe.{Maybe}
@@ -18,10 +18,6 @@ pub record Pushed (r at : ℕ) (bs before after : List ℕ) : Type 0 where
 pub record Starts (r : ℕ) (bs before after : List ℕ) : Type 0 where
   pub next : r ≡ length bs
   pub same : after ≡ bs ++ drop r before
-
--- four bytes, the highest first: document 01, "Frame and fields", "bytes 1-4 message length, 5-8 value length"
-abbrev pub be32 : ℕ → List ℕ
-be32 n = n / 2 ^ 24 % 256 ∷ n / 2 ^ 16 % 256 ∷ n / 2 ^ 8 % 256 ∷ n % 256 ∷ []
 
 -- the number that the code's enum means, if any
 abbrev pub maybe : Maybe → Option ℕ

@@ -2,13 +2,13 @@
 ghost use mathlib.Core.Path.{_≡_};
 ghost use Prim.Native.Nat.{_+_, _≤_};
 ghost use lib.ListN.{length};
+use bytes_field_writers::push_raw;
 use field_writers::push_head;
 use field_writers::push_int;
-use field_writers::push_maybe;
-use field_writers::push_nonempty;
-use field_writers::push_nonzero;
-use field_writers::push_raw;
 use libc::STDOUT_FILENO;
+use optional_field_writers::push_maybe;
+use optional_field_writers::push_nonempty;
+use optional_field_writers::push_nonzero;
 use words::write_hex;
 use writers::Maybe;
 

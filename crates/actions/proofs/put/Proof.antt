@@ -1,6 +1,6 @@
 use denote.Ref.{now}
 use native.Mathlib.Omega.{arith}
-use Rattle.requests.specs.Views.{keyValueView}
+use Rattle.request_parts.specs.Views.{keyValueView}
 use Rattle.actions.proofs.Slices.{puts, fits}
 use Rattle.actions.proofs.Results.{has-changed}
 use borrow.Author.Needs.{needs}

@@ -1,6 +1,6 @@
 use borrow.Author.Needs.{needs}
 use mathlib.Core.Path.{sym, _∙_}
-use Rattle.requests.specs.Views.{keyValueView}
+use Rattle.request_parts.specs.Views.{keyValueView}
 use Rattle.bodies.proofs.Parts.{only-metadata, whole-value}
 use Rattle.bodies.proofs.change_right.Statement.{statement}
 use Rattle.bodies.proofs.change_right.Tie as tie

@@ -1,7 +1,7 @@
 use borrow.Author.Needs.{needs}
 use borrow.Author.Tests.{not-true, not-false}
 use Rattle.protocol.specs.Judge.{keyValueGood}
-use Rattle.requests.specs.Views.{keyValueView}
+use Rattle.request_parts.specs.Views.{keyValueView}
 use Rattle.bodies.proofs.Parts.{absent, there, lengths}
 use Rattle.bodies.proofs.key_value_right.Statement.{statement}
 use Rattle.bodies.proofs.key_value_right.Tie as tie

@@ -1,7 +1,7 @@
 use borrow.Author.Needs.{needs}
 use borrow.Author.Tests.{not-true, not-false}
 use Rattle.protocol.specs.Judge.{rangeGood}
-use Rattle.requests.specs.Views.{rangeView}
+use Rattle.request_parts.specs.Views.{rangeView}
 use Rattle.bodies.proofs.Parts.{absent, there, range-lengths}
 use Rattle.bodies.proofs.range_right.Statement.{statement}
 use Rattle.bodies.proofs.range_right.Tie as tie

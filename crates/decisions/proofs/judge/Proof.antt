@@ -5,7 +5,8 @@ use Rattle.access.specs.Record.{tableOf}
 use Rattle.protocol.specs.State.{heard, lent}
 use Rattle.judgement.specs.Steps.{typeIn}
 use Rattle.tree.specs.Tree.{guard}
-use Rattle.requests.specs.Views.{bodyView, headerView}
+use Rattle.request_parts.specs.Views.{headerView}
+use Rattle.requests.specs.Views.{bodyView}
 use Rattle.connections.specs.Means.{connectionOf}
 use Rattle.decisions.proofs.Steps.{Had, accepts, asked-as, heard-by, refused}
 use borrow.Author.Needs.{needs}

@@ -1,5 +1,5 @@
 use native.Mathlib.Omega.{arith}
-use Rattle.writers.specs.PushedLaws.{tag-room, tag-from}
+use Rattle.varint_writers.specs.Groups.{tag-room, tag-from}
 use Rattle.field_writers.proofs.push_tag.Statement.{statement}
 use Rattle.field_writers.proofs.push_tag.Tie as tie
 

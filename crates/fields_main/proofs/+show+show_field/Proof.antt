@@ -9,12 +9,12 @@ use Rattle.fields_main.proofs.+show+show_field.Lts-show as show-lts
 use Rattle.fields_main.proofs.show_field.Reads as show-field
 use Rattle.fields_main.proofs.show_field.Kinds as show-field-kinds
 use Rattle.fields_main.proofs.+show+show_field.Lts-show_field as show-field-lts
-use Rattle.fields.proofs.judge.judge.Reads as judge-reads
+use Rattle.field_rules.proofs.judge.Reads as judge-reads
 use Rattle.words.proofs.part.Reads as part-reads
 use Rattle.fields_main.proofs.show_plain.Reads as show-plain-reads
 use Rattle.fields_main.proofs.write.Reads as write-reads
-use Rattle.wire.proofs.field.next_of.Reads as next-of-reads
-use Rattle.wire.proofs.field.read_field.Reads as read-field-reads
+use Rattle.wire_fields.proofs.next_of.Reads as next-of-reads
+use Rattle.wire_fields.proofs.read_field.Reads as read-field-reads
 use Rattle.fields_main.proofs.+show+show_field.{statement}
 use Rattle.fields_main.proofs.+show+show_field.Tie.{close}
 

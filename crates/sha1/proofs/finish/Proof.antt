@@ -5,7 +5,8 @@ use native.Mathlib.Omega.{arith}
 use denote.Ref.{now}
 use lib.Seq.{take-all}
 use lib.ListN.{length, take, drop, length-take, length-drop}
-use Rattle.sha1.specs.Sha1.{pad, block, chain, compress, overall}
+use Rattle.sha1_compression.specs.Compression.{compress}
+use Rattle.sha1.specs.Sha1.{pad, block, chain, overall}
 use Rattle.sha1.specs.Sha1Laws.{chain-none, chain-more, finish-split}
 use borrow.Author.Needs.{needs}
 use Rattle.sha1.proofs.finish.Statement.{statement}

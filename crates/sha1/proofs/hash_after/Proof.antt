@@ -1,6 +1,7 @@
 use mathlib.Core.Path.{sym, ap, _∙_}
 use denote.Ref.{now}
-use Rattle.sha1.specs.Sha1.{sha1Words, compress, finish, H0}
+use Rattle.sha1_compression.specs.Compression.{compress}
+use Rattle.sha1.specs.Sha1.{sha1Words, finish, H0}
 use Rattle.sha1.specs.Sha1Laws.{finish-after}
 use borrow.Author.Needs.{needs}
 use Rattle.sha1.proofs.hash_after.Statement.{statement}

@@ -15,9 +15,9 @@ use Rattle.fields.proofs.nested.+opens+reads.Lts-opens as opens-lts
 use Rattle.fields.proofs.nested.reads.Reads as reads′
 use Rattle.fields.proofs.nested.reads.Kinds as reads-kinds
 use Rattle.fields.proofs.nested.+opens+reads.Lts-reads as reads-lts
-use Rattle.fields.proofs.judge.judge.Reads as judge-reads
-use Rattle.wire.proofs.field.next_of.Reads as next-of-reads
-use Rattle.wire.proofs.field.read_field.Reads as read-field-reads
+use Rattle.field_rules.proofs.judge.Reads as judge-reads
+use Rattle.wire_fields.proofs.next_of.Reads as next-of-reads
+use Rattle.wire_fields.proofs.read_field.Reads as read-field-reads
 use Rattle.fields.proofs.nested.+opens+reads.{statement}
 use Rattle.fields.proofs.nested.+opens+reads.Tie.{close}
 

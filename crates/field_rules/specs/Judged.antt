@@ -1,0 +1,63 @@
+-- What the answers of the code on one field mean over the bytes s that it was read from.
+use Prim.Native.Nat.{ℕ, _+_, _/_, _%_, _^_, _<_}
+use mathlib.Core.Path.{_≡_}
+use mathlib.Core.List.{List, [], _∷_, _++_}
+use mathlib.Core.Option.{none, some}
+use mathlib.Core.Bool.{Bool, true, false}
+use lib.Dec.{eqb}
+use Rattle.wire.specs.Reader.{choose}
+use Rattle.wire.specs.Wire.{Field, field}
+use Rattle.wire_fields.specs.FieldAnswer.{numberIn, valueIn}
+use Rattle.wire_fields.specs.declared.Found.{Found}
+use Rattle.tree.specs.Rules.{strictOf, ruleOf}
+use Rattle.tree.specs.Tree.{isSome, Content, Item, item, find, add, step}
+use Rattle.tree.specs.declared.Kind.{Kind}
+use Rattle.tree.specs.declared.Rule.{Rule}
+use Rattle.tree.specs.declared.Rule.the-variants.{Unlisted, Refused, Single, Repeated}
+use Rattle.field_values.specs.Taken.{meansTaken, insideTaken}
+use Rattle.field_values.specs.declared.Taken.{Taken}
+use Rattle.field_rules.specs.declared.Listed.{Listed}
+use Rattle.field_rules.specs.declared.Listed.the-variants.{Not, Never, As}
+use Rattle.field_rules.specs.declared.Judged.{Judged}
+use Rattle.field_rules.specs.declared.Judged.the-variants.{Refuse, Skip, Take}
+
+-- bit n of a word
+unfoldable pub bit : ℕ → ℕ → Bool
+bit x n = eqb (x / 2 ^ n % 2) 1
+
+abbrev pub isSingle : Rule → Bool
+isSingle Unlisted = false
+isSingle Refused = false
+isSingle (Single f) = true
+isSingle (Repeated f) = false
+
+-- the singular numbers that have come are the bits of a word
+pub record Marks (k : Kind) (seen : ℕ) (is : List Item) : Type 0 where
+  pub small : seen < 65536
+  pub marks : (n : ℕ) → isSingle (ruleOf k n) ≡ true → bit seen n ≡ isSome (find n is)
+
+-- what a rule says of the number n, after the marks; "a singular listed field twice in one message [is] refused"
+abbrev pub listedBy : Rule → ℕ → ℕ → Listed
+listedBy Unlisted seen n = Not
+listedBy Refused seen n = Never
+listedBy (Single f) seen n = choose (bit seen n) Never (As f (seen + 2 ^ n))
+listedBy (Repeated f) seen n = As f seen
+
+abbrev pub unlistedOf : Kind → Judged
+unlistedOf k = choose (strictOf k) Refuse Skip
+
+abbrev pub fieldIn : List ℕ → Found → Field
+fieldIn s f = field (numberIn f) (valueIn s f)
+
+-- a listed field: the item that it adds, if it is not refused
+pub record Takes (s : List ℕ) (k : Kind) (is : List Item) (f : Found) (n seen : ℕ) (w : Taken) : Type 0 where
+  pub below : n < 16
+  pub adds : step k (fieldIn s f) is ≡ add n is (meansTaken s w)
+  pub inside : insideTaken s w
+  pub marked : (c : Content) → Marks k seen (is ++ (item n c ∷ []))
+  pub fresh : isSingle (ruleOf k n) ≡ true → find n is ≡ none
+
+abbrev pub Judges : List ℕ → Kind → List Item → Found → Judged → Type 0
+Judges s k is f Refuse = step k (fieldIn s f) is ≡ none
+Judges s k is f Skip = step k (fieldIn s f) is ≡ some is
+Judges s k is f (Take n seen w) = Takes s k is f n seen w
