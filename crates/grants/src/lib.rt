@@ -6,15 +6,10 @@ ghost use Rattle.access.specs.Table.{any, scopeGood};
 ghost use Rattle.access.specs.Record.{scopeAt, aclAt, Placed};
 ghost use Rattle.permission.specs.Permission.{grants};
 use access::Record;
+use integers::count;
 use scope_conditions::allows;
 use scope_conditions::fits_at;
 use scope_conditions::holds;
-
-fn count(x: u8) -> usize
-    ensures { λ r. ⌜ (r ≡ x) × (r < 256) ⌝ }
-{
-    x as usize
-}
 
 fn scope_grants(
     device: &Record,

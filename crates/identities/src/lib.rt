@@ -1,18 +1,13 @@
 // An identity looked up in the device record, and the key at its place.
 ghost use mathlib.Core.Path.{_≡_};
 ghost use mathlib.Core.Bool.{true};
-ghost use Prim.Native.Nat.{_+_, _*_, _<_, _≤_};
+ghost use Prim.Native.Nat.{_+_, _*_, _≤_};
 ghost use Rattle.access.specs.Table.{tableGood, findFrom, placeOf, aclOf};
 ghost use Rattle.access.specs.Record.{aclsAt, tableOf, Placed};
 use access::Found;
 use access::Record;
 use access::word_at;
-
-fn count(x: u8) -> usize
-    ensures { λ r. ⌜ (r ≡ x) × (r < 256) ⌝ }
-{
-    x as usize
-}
+use integers::count;
 
 // The first of n ACLs from byte a on that has the identity, counted from i.
 pub fn find_from(device: &Record, a: usize, n: usize, i: usize, identity: u64) -> Found

@@ -1,5 +1,6 @@
-// Signed numbers: 64-bit two's complement.
+// Numbers in other widths: signed ones are 64-bit two's complement.
 ghost use mathlib.Core.Path.{_≡_};
+ghost use Prim.Native.Nat.{_<_};
 ghost use Rattle.integers.specs.Signed.{signedOf, wordOf};
 
 // The number that a word stands for.
@@ -22,4 +23,11 @@ pub fn word(x: i64) -> u64
         return 18446744073709551615 - (w as u64);
     }
     x as u64
+}
+
+// A byte as a length.
+pub fn count(x: u8) -> usize
+    ensures { λ r. ⌜ (r ≡ x) × (r < 256) ⌝ }
+{
+    x as usize
 }

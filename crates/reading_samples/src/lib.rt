@@ -6,7 +6,7 @@ ghost use Rattle.binary32.specs.Celsius.{sentBits};
 ghost use Rattle.readings.specs.Lent.{bitsAt, placeAt, sampleOf};
 ghost use Rattle.readings.specs.LentLaws.{Placed};
 use binary32::Sent;
-use readings::count;
+use integers::count;
 
 fn wide(x: u8) -> u32
     ensures { λ r. ⌜ (r ≡ x) × (r < 256) ⌝ }

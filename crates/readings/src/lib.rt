@@ -1,16 +1,11 @@
 // The readings that a host lends, 134 bytes: up to four temperatures and two utilizations, each with its name.
 ghost use mathlib.Core.Path.{_≡_};
 ghost use mathlib.Core.Bool.{true};
-ghost use Prim.Native.Nat.{_+_, _≤_, _<_};
+ghost use Prim.Native.Nat.{_+_, _≤_};
 ghost use lib.ListN.{length, getD};
 ghost use Rattle.readings.specs.Lent.{placesFrom, allNamed, readingsGood};
 ghost use Rattle.readings.specs.LentLaws.{fits};
-
-pub fn count(x: u8) -> usize
-    ensures { λ r. ⌜ (r ≡ x) × (r < 256) ⌝ }
-{
-    x as usize
-}
+use integers::count;
 
 fn name_fits(n: u8) -> bool
     ensures { λ r. ⌜ r ≡ fits n ⌝ }

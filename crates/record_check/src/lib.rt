@@ -1,18 +1,13 @@
 // Is the device record good?
 ghost use mathlib.Core.Path.{_≡_};
-ghost use Prim.Native.Nat.{_+_, _*_, _<_, _≤_};
+ghost use Prim.Native.Nat.{_+_, _*_, _≤_};
 ghost use Rattle.access.specs.Table.{all, maskGood, scopeGood, aclGood, aclsGood, tableGood};
 ghost use Rattle.access.specs.Record.{scopeAt, scopesAt, aclAt, aclsAt, tableOf};
 use access::Found;
 use access::Record;
 use access::word_at;
 use identities::find_from;
-
-fn count(x: u8) -> usize
-    ensures { λ r. ⌜ (r ≡ x) × (r < 256) ⌝ }
-{
-    x as usize
-}
+use integers::count;
 
 fn mask_good(mask: usize) -> bool
     ensures { λ r. ⌜ r ≡ maskGood mask ⌝ }
