@@ -1,5 +1,6 @@
 // Steps 3 to 10: what comes of a command that was signed right.
 use access::Record;
+use closing::Replied;
 use connections::Connection;
 use lookups::parts::Num;
 use protocol::Asked;
@@ -34,12 +35,6 @@ ghost use Rattle.requests.specs.Views.{BodyLies, bodyView};
 ghost use Rattle.connections.specs.Means.{connectionOf};
 ghost use Rattle.decisions.specs.Commands.{commandIn};
 ghost use Rattle.sending.specs.Sent.{Sent, replied};
-
-// A reply of so many bytes, and the connection after it.
-pub struct Replied {
-    pub written: usize,
-    pub connection: Connection,
-}
 
 // Steps 8 to 10.
 fn serve(

@@ -40,7 +40,7 @@ fn serve(
             if !readings::good(readings) {
                 return Response::ReadingsBad;
             }
-            let r = receiving::close(connection, out, 20);
+            let r = closing::close(connection, out, 20);
             let connection = r.connection;
             Response::Answered {
                 written: r.written,

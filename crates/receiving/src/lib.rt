@@ -1,13 +1,13 @@
 // Steps 1 and 2: a whole message read, its sender looked up and its hmac verified; the command is left to the steps after them.
 use access::Found;
 use access::Record;
+use closing::Replied;
+use closing::close;
 use connections::Connection;
-use decisions::Replied;
 ghost use mathlib.Core.Path.{_≡_};
 ghost use mathlib.Core.Bool.{true};
-ghost use mathlib.Core.List.{List};
 ghost use mathlib.Core.Option.{some};
-ghost use Prim.Native.Nat.{ℕ, _≤_};
+ghost use Prim.Native.Nat.{_≤_};
 ghost use lib.ListN.{length, take};
 ghost use Rattle.access.specs.Table.{aclOf, placeOf, tableGood};
 ghost use Rattle.access.specs.declared.Found.the-variants.{At};
@@ -21,17 +21,6 @@ ghost use Rattle.protocol.specs.Answer.{reading, respond};
 ghost use Rattle.protocol.specs.Box.{box, close};
 ghost use Rattle.connections.specs.Means.{connectionOf};
 ghost use Rattle.sending.specs.Sent.{Sent};
-
-// The closing reply with a code.
-pub fn close(connection: Connection, out: &mut [u8], code: u64) -> Replied
-    requires { ⌜ 4096 ≤ length (now out) ⌝ }
-    ensures { λ r. ⌜ ((store device readings : List ℕ) → Sent (close (lent store device readings (connectionOf connection)) code) (r .written) (now (out .entry)) (now (out .exit)) (lent store device readings (connectionOf (r .connection)))) ⌝ }
-{
-    Replied {
-        written: replies::put_closing(out, connection.number, code),
-        connection: connections::close(connection),
-    }
-}
 
 // The key at a place, copied: SECURITY overwrites the record before its reply is signed.
 fn copy_key(device: &Record, place: usize, key: &mut [u8]) -> usize

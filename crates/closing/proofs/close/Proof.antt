@@ -3,8 +3,8 @@ use mathlib.Core.List.{List}
 use Prim.Native.Nat.{ℕ}
 use Rattle.protocol.specs.State.{lent}
 use borrow.Author.Needs.{needs}
-use Rattle.receiving.proofs.close.Statement.{statement}
-use Rattle.receiving.proofs.close.Tie as tie
+use Rattle.closing.proofs.close.Statement.{statement}
+use Rattle.closing.proofs.close.Tie as tie
 
 put-closing-requires : tie.Need-put-closing-requires
 put-closing-requires c κs = search needs
