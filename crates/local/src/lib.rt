@@ -17,7 +17,7 @@ pub fn local_find(store: &[u8], key: &[u8]) -> Local
     if !store_check::check(store) {
         return Local::StoreBad;
     }
-    match store::find(store, key) {
+    match store_entries::find(store, key) {
         Found::At(i) => value_at(store, i),
         Found::Gap(_) => Local::NotFound,
     }
@@ -27,7 +27,7 @@ pub fn local_find(store: &[u8], key: &[u8]) -> Local
 fn value_at(store: &[u8], i: usize) -> Local
     ensures { λ r. ⌜ ValueAt (now (store .entry)) i r ⌝ }
 {
-    let parts = store::entry_at(store, i);
+    let parts = store_entries::entry_at(store, i);
     let value = parts.value;
     Local::Value {
         start: value.start,

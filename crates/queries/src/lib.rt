@@ -17,8 +17,8 @@ pub fn get(store: &[u8], key: &[u8]) -> Shown
     requires { ⌜ Good (now store) ⌝ }
     ensures { λ r. ⌜ Showing (now (store .entry)) r (λ s. entryOf s (now (key .entry))) ⌝ }
 {
-    match store::find(store, key) {
-        store::Found::At(i) => Shown::Found(store::entry_at(store, i)),
+    match store_entries::find(store, key) {
+        store::Found::At(i) => Shown::Found(store_entries::entry_at(store, i)),
         store::Found::Gap(_) => Shown::Missing,
     }
 }
@@ -29,7 +29,7 @@ fn entry_shown(store: &[u8], p: Place) -> Shown
     ensures { λ r. ⌜ Showing (now (store .entry)) r (λ s. entryThere s p) ⌝ }
 {
     match p {
-        Place::There(i) => Shown::Found(store::entry_at(store, i)),
+        Place::There(i) => Shown::Found(store_entries::entry_at(store, i)),
         Place::Nothing => Shown::Missing,
     }
 }

@@ -32,7 +32,7 @@ fn push_key(out: &mut [u8], at: usize, store: &[u8], i: usize) -> usize
     requires { ⌜ Good (now store) × (79 ≤ at) × (at ≤ length (now out)) ⌝ }
     ensures { λ r. ⌜ Pushed r at (lenField 8 (keyAt (entriesOf (now (store .entry))) i)) (now (out .entry)) (now (out .exit)) × (at ≤ r + 79) ⌝ }
 {
-    let e = store::entry_at(store, i);
+    let e = store_entries::entry_at(store, i);
     let start = e.key.start;
     let end = start + e.key.len;
     bytes_field_writers::push_raw(out, at, 8, &store[start..end])

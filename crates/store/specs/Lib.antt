@@ -5,7 +5,6 @@ pub mod Size
 pub mod EntriesLaws
 pub mod Walk
 pub mod Check
-pub mod EntryAt
 pub mod Kept
 pub mod Readings
 pub mod Range

@@ -16,7 +16,7 @@ pub extern "C" fn rt_check(store: &[u8]) -> bool
 
 #[no_mangle]
 pub extern "C" fn rt_find(store: &[u8], key: &[u8]) -> usize {
-    match store::find(store, key) {
+    match store_entries::find(store, key) {
         Found::At(i) => i,
         Found::Gap(i) => i,
     }

@@ -7,7 +7,7 @@ ghost use Rattle.store.specs.Store.{entriesOf, Good};
 ghost use Rattle.store.specs.Entries.{below, upTo, nextIn, previousIn};
 use store::Found;
 use store::Place;
-use store::find;
+use store_entries::find;
 
 // The first place at or above a bound: how many keys are strictly below it.
 pub fn first_from(store: &[u8], bound: &[u8]) -> usize

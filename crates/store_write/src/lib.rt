@@ -13,7 +13,7 @@ use store::DeleteAnswer;
 use store::Found;
 use store::PutAnswer;
 use store::count;
-use store::find;
+use store_entries::find;
 
 // Moves the bytes from a up to e up by a block.
 fn move_up(store: &mut [u8], a: usize, e: usize)

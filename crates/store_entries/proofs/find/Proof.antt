@@ -4,14 +4,14 @@ use mathlib.Core.Path.{_≡_, _∙_, ap, refl, sym}
 use lib.ListN.{length, take, drop, getD}
 use Rattle.block.specs.declared.Order.{Order}
 use Rattle.block.specs.Order.{cmp}
 use Rattle.store.specs.declared.Found.the-variants.{At, Gap}
 use Rattle.store.specs.Store.{blocksIn, entriesFrom, entriesOf}
 use Rattle.store.specs.Entries.{byOrder, findFrom, findIn, pastOf}
 use Rattle.store.specs.EntriesLaws.{by-less, by-equal, by-greater}
 use Rattle.store.specs.Walk.{find-blank, find-used, find-end}
 use borrow.Author.Needs.{needs}
-use Rattle.store.proofs.find.Statement.{statement}
-use Rattle.store.proofs.find.Tie as tie
+use Rattle.store_entries.proofs.find.Statement.{statement}
+use Rattle.store_entries.proofs.find.Tie as tie
 
 abbrev Inv-loop : tie.InvT-loop
 Inv-loop store key n i₀ a₀ i a = (i ≤ n) × (a ≡ i * 512) × (n * 512 ≤ length store) × (findFrom i key (entriesFrom (n - i) (drop a store)) ≡ findIn key (entriesOf store))

@@ -2,12 +2,12 @@ use Prim.Native.Nat.{_+_, _*_}
 use native.Mathlib.Omega.{arith}
 use mathlib.Core.Path.{_≡_, _∙_, sym, subst}
 use lib.ListN.{getD}
 use Rattle.store.specs.declared.Parts.{Parts}
 use Rattle.store.specs.Entries.{EntryAt}
-use Rattle.store.specs.EntryAt.{entry-place, no-place, value-long, parts-here, nowhere}
+use Rattle.store_entries.specs.EntryAt.{entry-place, no-place, value-long, parts-here, nowhere}
 use borrow.Author.Needs.{needs}
-use Rattle.store.proofs.entry_at.Statement.{statement}
-use Rattle.store.proofs.entry_at.Tie as tie
+use Rattle.store_entries.proofs.entry_at.Statement.{statement}
+use Rattle.store_entries.proofs.entry_at.Tie as tie
 
 -- the length of the value
 value : (c : tie.After-wide2) → c .before .before .wide .result * 256 + c .wide2 .result ≡ getD (c .before .before .before .before .before .before .args .store .now) (c .before .before .before .before .before .before .args .i * 512 + 4) 0 * 256 + getD (c .before .before .before .before .before .before .args .store .now) (c .before .before .before .before .before .before .args .i * 512 + 5) 0
