@@ -9,9 +9,9 @@ use Rattle.writers.specs.Pushed.{Pushed}
 use Rattle.writers.specs.PushedLaws.{again}
 use Rattle.store.specs.Store.{entriesOf}
 use Rattle.ranges.specs.Keys.{keyAt, keysFrom}
-use Rattle.range_replies.specs.KeysLaws.{keys-none, keys-more, keys-all}
-use Rattle.range_replies.proofs.push_keys.Statement.{statement}
-use Rattle.range_replies.proofs.push_keys.Tie as tie
+use Rattle.range_parts.specs.KeysLaws.{keys-none, keys-more, keys-all}
+use Rattle.range_parts.proofs.push_keys.Statement.{statement}
+use Rattle.range_parts.proofs.push_keys.Tie as tie
 
 abbrev Inv-loop : tie.InvT-loop
 Inv-loop out₀ at store first count reverse i₀ p₀ out i p =

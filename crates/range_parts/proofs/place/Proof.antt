@@ -1,8 +1,8 @@
 use mathlib.Core.Path.{sym, ap}
 use Rattle.ranges.specs.Keys.{onward}
 use borrow.Author.Needs.{needs}
-use Rattle.range_replies.proofs.place.Statement.{statement}
-use Rattle.range_replies.proofs.place.Tie as tie
+use Rattle.range_parts.proofs.place.Statement.{statement}
+use Rattle.range_parts.proofs.place.Tie as tie
 
 sub-result : tie.Need-sub-result
 sub-result c = c .before .pre .2 (c .if1 .taken)

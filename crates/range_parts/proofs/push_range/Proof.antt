@@ -2,10 +2,10 @@ use native.Mathlib.Omega.{arith}
 use denote.Ref.{now}
 use Rattle.store.specs.Store.{entriesOf}
 use Rattle.ranges.specs.Keys.{keysFrom}
-use Rattle.range_replies.specs.KeysLaws.{range-law}
+use Rattle.range_parts.specs.KeysLaws.{range-law}
 use borrow.Author.Needs.{needs}
-use Rattle.range_replies.proofs.push_range.Statement.{statement}
-use Rattle.range_replies.proofs.push_range.Tie as tie
+use Rattle.range_parts.proofs.push_range.Statement.{statement}
+use Rattle.range_parts.proofs.push_range.Tie as tie
 
 push-keys-requires : tie.Need-push-keys-requires
 push-keys-requires c κs = search needs

@@ -3,10 +3,10 @@ use mathlib.Core.Path.{ap}
 use denote.Ref.{now}
 use Rattle.encoding.specs.Encode.{lenField}
 use Rattle.writers.specs.PushedLaws.{again}
-use Rattle.range_replies.specs.KeysLaws.{key-part, key-short}
+use Rattle.range_parts.specs.KeysLaws.{key-part, key-short}
 use borrow.Author.Needs.{needs}
-use Rattle.range_replies.proofs.push_key.Statement.{statement}
-use Rattle.range_replies.proofs.push_key.Tie as tie
+use Rattle.range_parts.proofs.push_key.Statement.{statement}
+use Rattle.range_parts.proofs.push_key.Tie as tie
 
 entry-at-requires : tie.Need-entry-at-requires
 entry-at-requires c κs = search needs
