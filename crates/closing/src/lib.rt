@@ -20,7 +20,7 @@ pub fn close(connection: Connection, out: &mut [u8], code: u64) -> Replied
     ensures { λ r. ⌜ ((store device readings : List ℕ) → Sent (close (lent store device readings (connectionOf connection)) code) (r .written) (now (out .entry)) (now (out .exit)) (lent store device readings (connectionOf (r .connection)))) ⌝ }
 {
     Replied {
-        written: replies::put_closing(out, connection.number, code),
+        written: closing_replies::put_closing(out, connection.number, code),
         connection: connections::close(connection),
     }
 }

@@ -35,7 +35,7 @@ pub fn status(out: &mut [u8], by: &[u8], a: Address, code: u64) -> usize
     requires { ⌜ (4096 ≤ length (now out)) × (length (now by) ≤ 64) ⌝ }
     ensures { λ r. ⌜ ((s : State) → Sent (replied a (now (by .entry)) (fails s code)) r (now (out .entry)) (now (out .exit)) s) ⌝ }
 {
-    replies::put_status(out, by, a.identity, a.connection, ack(a), a.kind, code)
+    status_replies::put_status(out, by, a.identity, a.connection, ack(a), a.kind, code)
 }
 
 // A reply of success with a keyValue that holds a version, or nothing.

@@ -2,8 +2,8 @@ use native.Mathlib.Omega.{arith}
 use mathlib.Core.Path.{refl}
 use Rattle.reply_frames.specs.Frames.{closing-law, copied}
 use borrow.Author.Needs.{needs}
-use Rattle.replies.proofs.put_closing.Statement.{statement}
-use Rattle.replies.proofs.put_closing.Tie as tie
+use Rattle.closing_replies.proofs.put_closing.Statement.{statement}
+use Rattle.closing_replies.proofs.put_closing.Tie as tie
 
 slice-aggregate-push-status : tie.Need-slice-aggregate-push-status
 slice-aggregate-push-status c = search needs

@@ -1,8 +1,8 @@
 use native.Mathlib.Omega.{arith}
 use Rattle.reply_parts.specs.Parts.{connection-law}
 use borrow.Author.Needs.{needs}
-use Rattle.replies.proofs.push_connection.Statement.{statement}
-use Rattle.replies.proofs.push_connection.Tie as tie
+use Rattle.closing_replies.proofs.push_connection.Statement.{statement}
+use Rattle.closing_replies.proofs.push_connection.Tie as tie
 
 push-int-requires : tie.Need-push-int-requires
 push-int-requires c κs = search needs

@@ -6,8 +6,8 @@ use Rattle.protocol.specs.Reply.{commandTree}
 use Rattle.reply_parts.specs.Parts.{bare-law}
 use Rattle.reply_frames.specs.Frames.{no-value, signed-whole, copied}
 use borrow.Author.Needs.{needs}
-use Rattle.replies.proofs.put_status.Statement.{statement}
-use Rattle.replies.proofs.put_status.Tie as tie
+use Rattle.status_replies.proofs.put_status.Statement.{statement}
+use Rattle.status_replies.proofs.put_status.Tie as tie
 
 slice-aggregate-push-status : tie.Need-slice-aggregate-push-status
 slice-aggregate-push-status c = search needs
