@@ -11,7 +11,7 @@ use Rattle.protocol.specs.State.{State, withDevice, withStore}
 use Rattle.protocol.specs.Command.{Acl}
 use Rattle.protocol.specs.Judge.{Result, bare, changed, fails, secure, securityGood, succeeds, wanted}
 use Rattle.operations.specs.Given.{Changed}
-use Rattle.security.specs.Security.{Makes}
+use Rattle.acl_tables.specs.Taken.{Makes}
 use Rattle.sending.specs.declared.Address.{Address}
 use Rattle.sending.specs.Sent.{Sent, replied}
 use Rattle.sending.specs.SentLaws.{sent-as}

@@ -1,5 +1,5 @@
 -- The whole table.
-use Prim.Native.Nat.{ℕ, _≤_}
+use Prim.Native.Nat.{ℕ, _+_, _≤_}
 use native.Mathlib.Omega.{arith}
 use mathlib.Core.Path.{_≡_, refl, sym, ap, ap₂, _∙_}
 use mathlib.Core.List.{List, [], _∷_}
@@ -15,9 +15,22 @@ use Rattle.access_write.specs.Written.{table-written}
 use Rattle.protocol.specs.Command.{Acl, mapL}
 use Rattle.protocol.specs.Judge.{aclRead, wantedAcl, wanted, securityGood}
 use Rattle.scopes.specs.Laws.{never}
-use Rattle.security.specs.Security.{aclTaken, aclsTaken, Makes}
-use Rattle.security.proofs.Scopes.{makes-no}
-use Rattle.security.proofs.Acls.{length-map, all-map, all-both}
+use Rattle.acl_tables.specs.Taken.{aclTaken, putOne, Makes}
+use Rattle.security.specs.Security.{aclsTaken}
+use Rattle.acl_tables.proofs.Scopes.{makes-no}
+use Rattle.acl_tables.proofs.Acls.{length-map, all-map, all-both}
+
+-- ---- written one after another
+abbrev pub putAll : List ℕ → ℕ → List Acl → List ℕ
+putAll l n acls = putAcls l n (mapL wantedAcl acls)
+
+pub all-nil : (l : List ℕ) (n : ℕ) → putAll l n [] ≡ l
+unfolding putAcls mapL
+all-nil l n = refl
+
+pub all-cons : (l : List ℕ) (n : ℕ) (a : Acl) (acls : List Acl) → putAll l n (a ∷ acls) ≡ putAll (putOne l n a) (n + 1) acls
+unfolding putAcls mapL putOne
+all-cons l n a acls = refl
 
 -- ---- the rules of the table
 acls-all : (acls : List Acl) → all aclTaken acls ≡ both (all aclRead acls) (all aclGood (mapL wantedAcl acls))

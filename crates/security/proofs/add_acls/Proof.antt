@@ -7,9 +7,10 @@ use Rattle.tree.specs.declared.Kind.the-variants as kind
 use Rattle.protocol.specs.Command.{aclOf}
 use Rattle.scopes.specs.Stands.{aclsIn}
 use Rattle.scopes.specs.Rests.{rest-stands}
-use Rattle.security.specs.Security.{aclTaken, aclsTaken, putOne}
-use Rattle.security.proofs.Rests.{Adding, adding-start, adding-none, adding-refused, adding-on, adding-end}
-use Rattle.security.proofs.Acls.{putAll, all-nil, all-cons}
+use Rattle.acl_tables.specs.Taken.{aclTaken, putOne}
+use Rattle.security.specs.Security.{aclsTaken}
+use Rattle.acl_tables.proofs.Rests.{Adding, adding-start, adding-none, adding-refused, adding-on, adding-end}
+use Rattle.security.proofs.Tables.{putAll, all-nil, all-cons}
 use borrow.Author.Needs.{needs}
 use Rattle.security.proofs.add_acls.Statement.{statement}
 use Rattle.security.proofs.add_acls.Tie as tie

@@ -8,12 +8,12 @@ use Rattle.protocol.specs.Command.{scopeOf}
 use Rattle.scopes.specs.Stands.{aclIn}
 use Rattle.scopes.specs.Scope.{scopeTaken}
 use Rattle.scopes.specs.Rests.{rest-stands}
-use Rattle.security.specs.Security.{scopesTaken}
-use Rattle.security.proofs.Rests.{Adding, adding-start, adding-none, adding-refused, adding-on, adding-end}
-use Rattle.security.proofs.Acls.{putThem, putIt, them-nil, them-cons}
+use Rattle.acl_tables.specs.Taken.{scopesTaken}
+use Rattle.acl_tables.proofs.Rests.{Adding, adding-start, adding-none, adding-refused, adding-on, adding-end}
+use Rattle.acl_tables.proofs.Acls.{putThem, putIt, them-nil, them-cons}
 use borrow.Author.Needs.{needs}
-use Rattle.security.proofs.add_scopes.Statement.{statement}
-use Rattle.security.proofs.add_scopes.Tie as tie
+use Rattle.acl_tables.proofs.add_scopes.Statement.{statement}
+use Rattle.acl_tables.proofs.add_scopes.Tie as tie
 
 abbrev Inv-loop : tie.InvT-loop
 Inv-loop s device₀ place left₀ n₀ device left n = Adding kind.Scope 4 scopeOf scopeTaken 4 (putThem place) (putIt place) s (aclIn s left₀ .scopes) device₀ left device n

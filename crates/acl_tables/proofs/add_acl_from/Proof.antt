@@ -7,11 +7,11 @@ use Rattle.lookups.specs.Views.{Level, bytesAt}
 use Rattle.lookups.proofs.Slotted.{level-sized, part-ready}
 use Rattle.scopes.specs.Laws.{level-at}
 use Rattle.lookups.specs.Slices.{slice-at}
-use Rattle.security.proofs.Scopes.{slice-short}
-use Rattle.security.proofs.Acls.{AclFacts, acl-facts, acl-nameless, acl-keyless, acl-long, acl-made}
+use Rattle.acl_tables.proofs.Scopes.{slice-short}
+use Rattle.acl_tables.proofs.Acls.{AclFacts, acl-facts, acl-nameless, acl-keyless, acl-long, acl-made}
 use borrow.Author.Needs.{needs}
-use Rattle.security.proofs.add_acl_from.Statement.{statement}
-use Rattle.security.proofs.add_acl_from.Tie as tie
+use Rattle.acl_tables.proofs.add_acl_from.Statement.{statement}
+use Rattle.acl_tables.proofs.add_acl_from.Tie as tie
 
 level : (c : tie.After-open-at) → Level kind.Acl (bytesAt (now (c .before .before .args .s)) (c .before .before .args .p)) (c .open-at .result)
 level c = level-at (c .open-at .result) (c .before .before .pre .1) (c .open-at .ensures)

@@ -11,7 +11,7 @@ use Rattle.fields.specs.Slots.{Tells}
 use Rattle.tree.specs.declared.Kind.the-variants as kind
 use Rattle.fields.specs.declared.slots.Slots.{Slots}
 use Rattle.access.specs.Table.{both, all, within, scopeGood, aclGood}
-use Rattle.access_write.specs.Write.{putScope, putScopes, putAcl, putAcls}
+use Rattle.access_write.specs.Write.{putScope, putScopes, putAcl}
 use Rattle.lookups.specs.Views.{Inside, bytesAt, treeOf, orEmpty, numView, NumIs, PartIs}
 use Rattle.lookups.specs.declared.parts.Num.{Num}
 use Rattle.lookups.specs.declared.parts.Part.{Part}
@@ -21,8 +21,8 @@ use Rattle.protocol.specs.Judge.{permissionsGood, aclRead, wantedScope, wantedA
 use Rattle.scopes.specs.Stands.{StandsAcl, aclIn}
 use Rattle.scopes.specs.Scope.{scopeTaken}
 use Rattle.scopes.specs.Laws.{both-false, level-at, or-empty}
-use Rattle.security.specs.Security.{scopesTaken, aclTaken, putOne, Makes}
-use Rattle.security.proofs.Scopes.{makes-no}
+use Rattle.acl_tables.specs.Taken.{scopesTaken, aclTaken, putOne, Makes}
+use Rattle.acl_tables.proofs.Scopes.{makes-no}
 
 -- ---- written one after another
 abbrev pub putThem : ℕ → List ℕ → ℕ → List Scope → List ℕ
@@ -38,17 +38,6 @@ them-nil place l n = refl
 pub them-cons : (place : ℕ) (l : List ℕ) (n : ℕ) (c : Scope) (cs : List Scope) → putThem place l n (c ∷ cs) ≡ putThem place (putIt place l n c) (n + 1) cs
 unfolding putScopes mapL
 them-cons place l n c cs = refl
-
-abbrev pub putAll : List ℕ → ℕ → List Acl → List ℕ
-putAll l n acls = putAcls l n (mapL wantedAcl acls)
-
-pub all-nil : (l : List ℕ) (n : ℕ) → putAll l n [] ≡ l
-unfolding putAcls mapL
-all-nil l n = refl
-
-pub all-cons : (l : List ℕ) (n : ℕ) (a : Acl) (acls : List Acl) → putAll l n (a ∷ acls) ≡ putAll (putOne l n a) (n + 1) acls
-unfolding putAcls mapL putOne
-all-cons l n a acls = refl
 
 -- ---- tests over lists
 pub length-map : {A B : Type 0} (g : A → B) (xs : List A) → length (mapL g xs) ≡ length xs

@@ -4,10 +4,10 @@ use borrow.Author.Tests.{not-true, not-false}
 use Rattle.access.specs.Table as access
 use Rattle.access_write.specs.Write.{putScope}
 use Rattle.lookups.specs.Slices.{slice-at}
-use Rattle.security.proofs.Scopes.{slice-short, makes-no, sliced}
+use Rattle.acl_tables.proofs.Scopes.{slice-short, makes-no, sliced}
 use borrow.Author.Needs.{needs}
-use Rattle.security.proofs.add_scope_from.Statement.{statement}
-use Rattle.security.proofs.add_scope_from.Tie as tie
+use Rattle.acl_tables.proofs.add_scope_from.Statement.{statement}
+use Rattle.acl_tables.proofs.add_scope_from.Tie as tie
 
 read-scope-requires : tie.Need-read-scope-requires
 read-scope-requires c κs = c .before .pre .2

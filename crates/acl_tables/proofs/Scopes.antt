@@ -13,7 +13,7 @@ use Rattle.lookups.proofs.Slotted.{length-at}
 use Rattle.scopes.specs.Scope.{scopeView}
 use Rattle.scopes.specs.Laws.{never}
 use Rattle.scopes.specs.declared.ReadScope.{ReadScope}
-use Rattle.security.specs.Security.{Makes}
+use Rattle.acl_tables.specs.Taken.{Makes}
 
 pub slice-short : (s : List ℕ) (v : Part) → Inside s v → v .len ≤ 64 → length (take (v .start + v .len - v .start) (drop (v .start) s)) ≤ 64
 slice-short s v i h = subst (λ (l : List ℕ). length l ≤ 64) (sym (slice-at s v)) (omega (arith, length-at s v i))

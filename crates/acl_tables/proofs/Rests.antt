@@ -21,8 +21,8 @@ use Rattle.protocol.specs.Command.{mapL}
 use Rattle.scopes.specs.Stands.{Stands}
 use Rattle.scopes.specs.Laws.{both-false}
 use Rattle.scopes.specs.Rests.{Rest, coming, rest-start, whole-is, rest-end, rest-next, rest-more}
-use Rattle.security.specs.Security.{fewTaken, Makes}
-use Rattle.security.proofs.Scopes.{makes-no}
+use Rattle.acl_tables.specs.Taken.{fewTaken, Makes}
+use Rattle.acl_tables.proofs.Scopes.{makes-no}
 
 module _ {A : Type 0} (k : Kind) (num : ℕ) (f : Tree → A) (taken : A → Bool) (most : ℕ) (put : List ℕ → ℕ → List A → List ℕ) (one : List ℕ → ℕ → A → List ℕ) (s : List ℕ) (whole : List A) (first : List ℕ) where
   pub record Adding (left : Part) (out : List ℕ) (n : ℕ) : Type 0 where
