@@ -1,15 +1,9 @@
-// The rescue of a damaged store.
+// What a rescue of a damaged store answers, and what becomes of one block.
 use block_state::BlockState;
 use store::Found;
-ghost use mathlib.Core.Path.{_≡_};
-ghost use lib.ListN.{length};
 ghost use Rattle.block.specs.Block.{BlockGood};
-ghost use Rattle.store.specs.Store.{blocksIn};
-ghost use Rattle.store.specs.Size.{SizeGood};
 ghost use Rattle.order_table.specs.Table.{blockAt};
-ghost use Rattle.rescue.specs.Rescue.{outcome, rescueOf, rescueNumber};
 ghost use Rattle.rescue.specs.Listed.{Listed, Next, Judged};
-ghost use Rattle.rescue.specs.Survey.{Surveyed};
 
 pub enum Rescued {
     Done,
@@ -18,9 +12,9 @@ pub enum Rescued {
 }
 
 // A block's report byte, and how many blocks are kept up to it.
-struct Step {
-    byte: u8,
-    kept: usize,
+pub struct Step {
+    pub byte: u8,
+    pub kept: usize,
 }
 
 // Keeps the sound block i, unless a block that is kept has its key.
@@ -43,7 +37,8 @@ fn keep(store: &[u8], order: &mut [u8], kept: usize, i: usize) -> Step
     }
 }
 
-fn admit(store: &[u8], order: &mut [u8], kept: usize, i: usize) -> Step
+// Keeps the next block i if it is sound and its key is new.
+pub fn admit(store: &[u8], order: &mut [u8], kept: usize, i: usize) -> Step
     requires { ⌜ Listed (now store) i kept (now order) × Next (now store) i ⌝ }
     ensures { λ r. ⌜ Judged (now (store .entry)) i kept (now (order .entry)) (r .byte) (r .kept) (now (order .exit)) ⌝ }
 {
@@ -55,36 +50,4 @@ fn admit(store: &[u8], order: &mut [u8], kept: usize, i: usize) -> Step
         BlockState::RuleBroken => Step { byte: 3, kept },
         BlockState::Sound => keep(store, order, kept, i),
     }
-}
-
-// Writes the report, and the numbers of the kept blocks in the order of their keys; answers how many there are.
-fn survey(store: &[u8], report: &mut [u8], order: &mut [u8]) -> usize
-    requires { ⌜ SizeGood (now store) × ((length (now report) ≡ blocksIn (now store)) × (length (now order) ≡ 128)) ⌝ }
-    ensures { λ r. ⌜ Surveyed (now (store .entry)) r (now (report .exit)) (now (order .exit)) ⌝ }
-{
-    let mut kept: usize = 0;
-    let mut i: usize = 0;
-    while i < report.len() {
-        let step = admit(store, order, kept, i);
-        report[i] = step.byte;
-        kept = step.kept;
-        i += 1;
-    }
-    kept
-}
-
-// Puts the sound blocks of a store in order, of equal keys the earliest, blanks all others, and reports what became of each.
-pub fn rescue(store: &mut [u8], report: &mut [u8]) -> Rescued
-    ensures { λ r. ⌜ outcome (rescueNumber r) (now (store .exit)) (now (report .exit)) ≡ rescueOf (now (store .entry)) (now (report .entry)) ⌝ }
-{
-    if !store::size_good(store) {
-        return Rescued::StoreBad;
-    }
-    if report.len() != store.len() / 512 {
-        return Rescued::ReportBad;
-    }
-    let mut order = [0u8; 128];
-    let kept = survey(store, report, &mut order);
-    block_moves::arrange(store, order, kept);
-    Rescued::Done
 }

@@ -53,7 +53,7 @@ fn show(label: &[u8], r: u64, report: &[u8], store: &[u8]) {
 }
 
 fn rescued(label: &[u8], store: &mut [u8], report: &mut [u8]) {
-    let r = rescue::rescue(store, report);
+    let r = store_rescue::rescue(store, report);
     show(label, number_of(r), report, store);
 }
 

@@ -663,7 +663,7 @@ fn rescued(r: Rescued, report: &[u8]) {
 }
 
 fn rescue_lent(store: &mut [u8], report: &mut [u8]) {
-    let r = rescue::rescue(store, report);
+    let r = store_rescue::rescue(store, report);
     rescued(r, report);
 }
 

@@ -23,7 +23,7 @@ pub fn find(store: &[u8], key: &[u8], part: &mut [u64; 2]) -> u32
 pub fn rescue(store: &mut [u8], report: &mut [u8]) -> u32
     ensures { λ n. ⌜ outcome n (now (store .exit)) (now (report .exit)) ≡ rescueOf (now (store .entry)) (now (report .entry)) ⌝ }
 {
-    match rescue::rescue(store, report) {
+    match store_rescue::rescue(store, report) {
         Rescued::Done => 0,
         Rescued::StoreBad => 2,
         Rescued::ReportBad => 8,

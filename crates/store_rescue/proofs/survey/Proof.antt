@@ -1,9 +1,9 @@
 use Prim.Native.Nat.{_-_, _≤_}
 use native.Mathlib.Omega.{arith}
 use Rattle.store.specs.Store.{blocksIn}
 use Rattle.rescue.specs.Survey.{Surveying, surveying-start, surveying-more, surveyed}
-use Rattle.rescue.proofs.survey.Statement.{statement}
-use Rattle.rescue.proofs.survey.Tie as tie
+use Rattle.store_rescue.proofs.survey.Statement.{statement}
+use Rattle.store_rescue.proofs.survey.Tie as tie
 
 abbrev Inv-loop : tie.InvT-loop
 Inv-loop store report₀ order₀ kept₀ i₀ report order kept i = (i ≤ blocksIn store) × Surveying store i kept report order

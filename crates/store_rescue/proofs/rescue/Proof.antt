@@ -4,10 +4,10 @@ use lib.ListN.{length}
 use borrow.Author.Tests.{not-true, not-false}
 use Rattle.store.specs.Store.{blocksIn, sizeGood}
 use Rattle.store.specs.Size.{SizeGood, size-decides}
 use Rattle.rescue.specs.Survey.{names, distinct, fits, put-right, store-refused, report-refused, done}
 use borrow.Author.Needs.{needs}
-use Rattle.rescue.proofs.rescue.Statement.{statement}
-use Rattle.rescue.proofs.rescue.Tie as tie
+use Rattle.store_rescue.proofs.rescue.Statement.{statement}
+use Rattle.store_rescue.proofs.rescue.Tie as tie
 
 abbrev S : tie.Else1 → tie.Start
 S c = c .before .before .before .before .before
