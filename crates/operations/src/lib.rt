@@ -41,7 +41,7 @@ pub fn put(
     if !version_fits(compare_version(store, key, old), old, force) {
         return 8;
     }
-    put_code(store_write::put(store, key, new, tag, value, algorithm))
+    put_code(store_put::put(store, key, new, tag, value, algorithm))
 }
 
 fn delete_code(v: Version, force: bool) -> u64
@@ -66,7 +66,7 @@ pub fn delete(store: &mut [u8], key: &[u8], old: &[u8], force: bool) -> u64
     if code != 1 {
         return code;
     }
-    store_write::delete(store, key);
+    store_delete::delete(store, key);
     1
 }
 

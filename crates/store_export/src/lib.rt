@@ -34,7 +34,7 @@ pub extern "C" fn rt_put(
     requires { ⌜ Good (now store) × Sized (entry (now key) (now version) (now tag) (now value) algorithm) ⌝ }
     ensures { λ r. ⌜ now (store .exit) ≡ putStore (now (store .entry)) (entry (now (key .entry)) (now (version .entry)) (now (tag .entry)) (now (value .entry)) algorithm) ⌝ }
 {
-    match store_write::put(store, key, version, tag, value, algorithm) {
+    match store_put::put(store, key, version, tag, value, algorithm) {
         PutAnswer::Stored => 0,
         PutAnswer::Full => 1,
         PutAnswer::Unfit => 2,
@@ -46,7 +46,7 @@ pub extern "C" fn rt_delete(store: &mut [u8], key: &[u8]) -> u32
     requires { ⌜ Good (now store) ⌝ }
     ensures { λ r. ⌜ now (store .exit) ≡ deleteStore (now (store .entry)) (now (key .entry)) ⌝ }
 {
-    match store_write::delete(store, key) {
+    match store_delete::delete(store, key) {
         DeleteAnswer::Deleted => 0,
         DeleteAnswer::Missing => 1,
     }

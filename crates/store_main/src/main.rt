@@ -75,7 +75,7 @@ fn put_parts(lent: &mut [u8], key: &[u8], rising: &[u8], n: usize) -> u64
     let t = n % 33;
     let w = n % 129 * 3;
     let g = (n % 7) as u8;
-    match store_write::put(
+    match store_put::put(
         lent,
         &key[0..k],
         &rising[0..v],
@@ -103,7 +103,7 @@ fn delete_key(lent: &mut [u8], key: &[u8], n: usize) -> u64
         return 9;
     }
     let k = n % 64 + 1;
-    match store_write::delete(lent, &key[0..k]) {
+    match store_delete::delete(lent, &key[0..k]) {
         DeleteAnswer::Deleted => 0,
         DeleteAnswer::Missing => 1,
     }

@@ -7,10 +7,10 @@ use Rattle.block.specs.BlockLaws.{good-size}
 use Rattle.block.specs.Written.{over}
 use Rattle.store.specs.Store.{blocksIn, entriesOf}
 use Rattle.store.specs.StoreLaws.{good-length, room}
 use Rattle.store_write.specs.Change.{full, opened, inserted}
 use borrow.Author.Needs.{needs}
-use Rattle.store_write.proofs.insert.Statement.{statement}
-use Rattle.store_write.proofs.insert.Tie as tie
+use Rattle.store_put.proofs.insert.Statement.{statement}
+use Rattle.store_put.proofs.insert.Tie as tie
 
 abbrev S : tie.After-count → tie.Start
 S c = c .before .before .before .before

@@ -12,10 +12,10 @@ use Rattle.store.specs.declared.Found.the-variants.{At, Gap}
 use Rattle.store.specs.Store.{entriesOf}
 use Rattle.store.specs.StoreLaws.{good-length, room}
 use Rattle.store.specs.Entries.{findIn}
 use Rattle.store_write.specs.Change.{insertStore, unfit, at-low, gap-low, replaced, put-in}
 use borrow.Author.Needs.{needs}
-use Rattle.store_write.proofs.put.Statement.{statement}
-use Rattle.store_write.proofs.put.Tie as tie
+use Rattle.store_put.proofs.put.Statement.{statement}
+use Rattle.store_put.proofs.put.Tie as tie
 
 abbrev S : tie.After-make → tie.Start
 S c = c .before .before .before .before .before .before

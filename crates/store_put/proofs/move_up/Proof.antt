@@ -4,9 +4,9 @@ use native.Mathlib.Nat.{le-antisymm}
 use mathlib.Core.Path.{_≡_, _∙_, ap, refl, sym}
 use lib.ListN.{length, take, drop, length-set}
 use Rattle.block.specs.Written.{over, over-none}
 use Rattle.store_write.specs.Move.{up-more}
-use Rattle.store_write.proofs.move_up.Statement.{statement}
-use Rattle.store_write.proofs.move_up.Tie as tie
+use Rattle.store_put.proofs.move_up.Statement.{statement}
+use Rattle.store_put.proofs.move_up.Tie as tie
 
 abbrev Inv-loop : tie.InvT-loop
 Inv-loop store₀ a e j₀ store j = (a ≤ j) × (j ≤ e) × (store ≡ over store₀ (j + 512) (take (e - j) (drop j store₀))) × (length store ≡ length store₀)

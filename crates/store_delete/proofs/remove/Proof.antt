@@ -6,10 +6,10 @@ use lib.ListN.{length, replicate}
 use Rattle.block.specs.Written.{over}
 use Rattle.store.specs.Store.{entriesOf}
 use Rattle.store.specs.StoreLaws.{good-length, room}
 use Rattle.store_write.specs.Change.{removed}
 use borrow.Author.Needs.{needs}
-use Rattle.store_write.proofs.remove.Statement.{statement}
-use Rattle.store_write.proofs.remove.Tie as tie
+use Rattle.store_delete.proofs.remove.Statement.{statement}
+use Rattle.store_delete.proofs.remove.Tie as tie
 
 abbrev S : tie.After-count → tie.Start
 S c = c .before .before .before

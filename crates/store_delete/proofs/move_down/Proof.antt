@@ -4,9 +4,9 @@ use native.Mathlib.Nat.{le-antisymm}
 use mathlib.Core.Path.{_≡_, _∙_, ap, refl, sym}
 use lib.ListN.{length, take, drop, length-set}
 use Rattle.block.specs.Written.{over, over-none}
 use Rattle.store_write.specs.Move.{down-more}
-use Rattle.store_write.proofs.move_down.Statement.{statement}
-use Rattle.store_write.proofs.move_down.Tie as tie
+use Rattle.store_delete.proofs.move_down.Statement.{statement}
+use Rattle.store_delete.proofs.move_down.Tie as tie
 
 abbrev Inv-loop : tie.InvT-loop
 Inv-loop store₀ a e j₀ store j = (a ≤ j) × (j ≤ e) × (store ≡ over store₀ a (take (j - a) (drop (a + 512) store₀))) × (length store ≡ length store₀)

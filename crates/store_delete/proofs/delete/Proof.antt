@@ -2,10 +2,10 @@ use mathlib.Core.Path.{_≡_, _∙_, sym}
 use Rattle.store.specs.declared.Found.the-variants.{At}
 use Rattle.store.specs.Store.{entriesOf}
 use Rattle.store.specs.Entries.{findIn}
 use Rattle.store_write.specs.Change.{delete-low, taken, kept}
 use borrow.Author.Needs.{needs}
-use Rattle.store_write.proofs.delete.Statement.{statement}
-use Rattle.store_write.proofs.delete.Tie as tie
+use Rattle.store_delete.proofs.delete.Statement.{statement}
+use Rattle.store_delete.proofs.delete.Tie as tie
 
 abbrev S : tie.After-find → tie.Start
 S c = c .before .before .before .before
