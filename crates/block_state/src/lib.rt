@@ -19,7 +19,7 @@ pub fn judge(b: &[u8]) -> BlockState
     if block::zeros(b) {
         return BlockState::Blank;
     }
-    if !block_check::sum_right(b) {
+    if !sum_check::sum_right(b) {
         return BlockState::SumWrong;
     }
     if !block_check::rules_kept(b) {

@@ -1,8 +1,8 @@
 use native.Mathlib.Omega.{arith}
 use Rattle.block.specs.Direct.{numberAt}
 use borrow.Author.Needs.{needs}
-use Rattle.block_check.proofs.held.Statement.{statement}
-use Rattle.block_check.proofs.held.Tie as tie
+use Rattle.sum_check.proofs.held.Statement.{statement}
+use Rattle.sum_check.proofs.held.Tie as tie
 
 -- src/lib.rt:33:18
 shared-slice-read-wide : tie.Need-shared-slice-read-wide

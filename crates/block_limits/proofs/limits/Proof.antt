@@ -4,8 +4,8 @@ use mathlib.Core.Path.{_≡_}
 use lib.ListN.{getD}
 use Rattle.block.specs.Decides.{says-yes, says-no}
 use borrow.Author.Needs.{needs}
-use Rattle.block_check.proofs.limits.Statement.{statement}
-use Rattle.block_check.proofs.limits.Tie as tie
+use Rattle.block_limits.proofs.limits.Statement.{statement}
+use Rattle.block_limits.proofs.limits.Tie as tie
 
 value : (c : tie.After-wide2) → c .before .before .wide .result * 256 + c .wide2 .result ≡ getD (c .before .before .before .before .before .args .b .now) 4 0 * 256 + getD (c .before .before .before .before .before .args .b .now) 5 0
 value c = let x = c .before .before .wide .ensures .0 in let y = c .wide2 .ensures .0 in omega arith

@@ -1,7 +1,7 @@
 use borrow.Author.Needs.{needs}
 use Rattle.block.specs.Direct.{held-decides}
-use Rattle.block_check.proofs.sum_right.Statement.{statement}
-use Rattle.block_check.proofs.sum_right.Tie as tie
+use Rattle.sum_check.proofs.sum_right.Statement.{statement}
+use Rattle.sum_check.proofs.sum_right.Tie as tie
 
 sum-requires : tie.Need-sum-requires
 sum-requires c κs = search needs
