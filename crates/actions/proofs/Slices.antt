@@ -12,7 +12,7 @@ use Rattle.operations.specs.Given.{Deletes, Puts}
 use Rattle.operations.specs.Changes.{put-fits}
 use Rattle.request_parts.specs.declared.KeyValue.{KeyValue}
 use Rattle.request_parts.specs.Views.{KeyValueLies, keyValueView}
-use Rattle.showing.specs.Slices.{cutAt, cut-part}
+use Rattle.entry_showing.specs.Slices.{cutAt, cut-part}
 
 module _ {s : List ℕ} {k : KeyValue} (h : KeyValueLies s k) where
   pub deletes : {f : Bool} → f ≡ flag (numView (k .force)) → Deletes (keyValueView s k) (cutAt s (k .key)) (cutAt s (k .expected)) f

@@ -3,7 +3,7 @@ use denote.Ref.{now}
 use Rattle.protocol.specs.State.{State}
 use Rattle.protocol.specs.Judge.{shown}
 use Rattle.showing.specs.Sought.{sought}
-use Rattle.showing.specs.Slices.{cut-part}
+use Rattle.entry_showing.specs.Slices.{cut-part}
 use Rattle.sending.specs.SentLaws.{sent-as}
 use borrow.Author.Needs.{needs}
 use Rattle.showing.proofs.get.Statement.{statement}

@@ -2,7 +2,7 @@ use mathlib.Core.Path.{_≡_, ap, _∙_}
 use denote.Ref.{now}
 use Rattle.protocol.specs.State.{State}
 use Rattle.protocol.specs.Judge.{entryOf, versionShown}
-use Rattle.showing.specs.Slices.{cut-part}
+use Rattle.entry_showing.specs.Slices.{cut-part}
 use Rattle.sending.specs.SentLaws.{sent-as}
 use borrow.Author.Needs.{needs}
 use Rattle.showing.proofs.get_version.Statement.{statement}

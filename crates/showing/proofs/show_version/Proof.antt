@@ -5,7 +5,7 @@ use Rattle.protocol.specs.State.{State}
 use Rattle.protocol.specs.Judge.{versionShown}
 use Rattle.queries.specs.declared.Shown.{Shown}
 use Rattle.queries.specs.Given.{Inside, PartsInside, entryShown}
-use Rattle.showing.specs.Slices.{cut-short, version-cut}
+use Rattle.entry_showing.specs.Slices.{cut-short, version-cut}
 use Rattle.sending.specs.SentLaws.{sent-as}
 use borrow.Author.Needs.{needs}
 use Rattle.showing.proofs.show_version.Statement.{statement}

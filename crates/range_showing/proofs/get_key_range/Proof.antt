@@ -1,11 +1,11 @@
 use mathlib.Core.Path.{_≡_}
 use denote.Ref.{now}
 use Rattle.protocol.specs.State.{State}
-use Rattle.showing.specs.Slices.{range-cut}
+use Rattle.range_showing.specs.RangeSlices.{range-cut}
 use Rattle.sending.specs.SentLaws.{sends-as}
 use borrow.Author.Needs.{needs}
-use Rattle.showing.proofs.get_key_range.Statement.{statement}
-use Rattle.showing.proofs.get_key_range.Tie as tie
+use Rattle.range_showing.proofs.get_key_range.Statement.{statement}
+use Rattle.range_showing.proofs.get_key_range.Tie as tie
 
 ack-requires : tie.Need-ack-requires
 ack-requires c κs = search needs

@@ -1,11 +1,11 @@
 use denote.Ref.{now}
 use native.Mathlib.Omega.{arith}
 use Rattle.protocol.specs.State.{State}
-use Rattle.showing.specs.Slices.{cut-short, entry-cut}
+use Rattle.entry_showing.specs.Slices.{cut-short, entry-cut}
 use Rattle.sending.specs.SentLaws.{sends-as}
 use borrow.Author.Needs.{needs}
-use Rattle.showing.proofs.show_entry.Statement.{statement}
-use Rattle.showing.proofs.show_entry.Tie as tie
+use Rattle.entry_showing.proofs.show_entry.Statement.{statement}
+use Rattle.entry_showing.proofs.show_entry.Tie as tie
 
 abbrev S : tie.After-shown-length → tie.Start
 S c = c .before .before .before .before .before .before .before .before .before .before .before .before .before

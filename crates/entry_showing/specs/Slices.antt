@@ -9,19 +9,13 @@ use native.Mathlib.Omega.{arith}
 use lib.ListN.{length, take, drop, length-take}
 use Rattle.wire.specs.Reader.{choose}
 use Rattle.store.specs.declared.Parts.{Parts}
-use Rattle.store.specs.Store.{entriesOf, Good}
 use Rattle.store.specs.Entries as store
 use Rattle.store.specs.Entries.{partOf}
 use Rattle.lookups.specs.declared.parts.Part.{Part}
-use Rattle.lookups.specs.Views.{Lies, numView, orEmpty, partView}
-use Rattle.protocol.specs.State.{State, entries}
-use Rattle.protocol.specs.Command as command
-use Rattle.protocol.specs.Command.{orElse, flag}
-use Rattle.protocol.specs.Judge.{keyValue, keysOf, range, shown, succeeds}
-use Rattle.ranges.specs.Range.{rangeWith}
-use Rattle.ranges.specs.RangeLaws.{keys-of}
-use Rattle.request_parts.specs.declared.Range.{Range}
-use Rattle.request_parts.specs.Views.{RangeLies, rangeView}
+use Rattle.lookups.specs.Views.{Lies, orEmpty, partView}
+use Rattle.protocol.specs.State.{State}
+use Rattle.protocol.specs.Command.{orElse}
+use Rattle.protocol.specs.Judge.{keyValue, shown, succeeds}
 use Rattle.lookups.specs.Slices.{slice-at}
 
 -- n bytes from a on
@@ -62,20 +56,3 @@ entry-cut l p m {n} e s =
 
 pub version-cut : (l : List ℕ) (p : Parts) (s : State) → succeeds s (keyValue [] (cut l (p .version .start) (p .version .len)) [] 0) [] ≡ succeeds s (keyValue [] (partOf l (p .version)) [] 0) []
 version-cut l p s = ap (λ (v : List ℕ). succeeds s (keyValue [] v [] 0) []) (cut-at l (p .version .start) (p .version .len))
-
--- ---- the parts of GETKEYRANGE
-
-keys-with : (g : command.Range) {l : List ℕ} → Good l
-    → keysOf (rangeWith (orElse [] (g .startKey)) (orElse [] (g .endKey)) (g .startInclusive) (g .endInclusive) (g .maxReturned) (g .reverse)) (entriesOf l) ≡ keysOf g (entriesOf l)
-keys-with g {l} h =
-    keys-of (rangeWith (orElse [] (g .startKey)) (orElse [] (g .endKey)) (g .startInclusive) (g .endInclusive) (g .maxReturned) (g .reverse)) (entriesOf l) (h .sorted)
-    ∙ sym (keys-of g (entriesOf l) (h .sorted))
-
-pub range-cut : {s : List ℕ} {g : Range} {l : List ℕ} {f e v : Bool} {n : ℕ} → RangeLies s g → Good l → f ≡ flag (numView (g .first)) → e ≡ flag (numView (g .last))
-    → n ≡ orElse 32 (numView (g .limit)) → v ≡ flag (numView (g .reverse)) → (t : State) → t .store ≡ l
-    → succeeds t (range (keysOf (rangeWith (cutAt s (g .start)) (cutAt s (g .end)) f e n v) (entriesOf l))) [] ≡ succeeds t (range (keysOf (rangeView s g) (entries t))) []
-range-cut {s} {g} {l} h w f e n v t q =
-    ap (λ (ks : List (List ℕ)). succeeds t (range ks) [])
-    ((λ i. keysOf (rangeWith (cut-part (h .start) i) (cut-part (h .end) i) (f i) (e i) (n i) (v i)) (entriesOf l))
-    ∙ keys-with (rangeView s g) w
-    ∙ ap (λ (m : List ℕ). keysOf (rangeView s g) (entriesOf m)) (sym q))

@@ -6,8 +6,8 @@ use Rattle.queries.specs.declared.Shown.{Shown}
 use Rattle.queries.specs.Given.{PartsInside, entryShown}
 use Rattle.sending.specs.SentLaws.{sent-as}
 use borrow.Author.Needs.{needs}
-use Rattle.showing.proofs.show.Statement.{statement}
-use Rattle.showing.proofs.show.Tie as tie
+use Rattle.entry_showing.proofs.show.Statement.{statement}
+use Rattle.entry_showing.proofs.show.Tie as tie
 
 abbrev S : tie.After-shared-slice-known2 → tie.Start
 S m = m .before .before .before
