@@ -8,8 +8,9 @@ use Rattle.block.specs.Entry.{Entry, entry, Fit}
 use Rattle.lookups.specs.Views.{numView}
 use Rattle.protocol.specs.Command.{orElse, flag}
 use Rattle.protocol.specs.Judge.{keyValueGood, newEntry}
-use Rattle.operations.specs.Given.{Deletes, Puts}
+use Rattle.operations.specs.Given.{Puts}
 use Rattle.operations.specs.Changes.{put-fits}
+use Rattle.deletion.specs.Given.{Deletes}
 use Rattle.request_parts.specs.declared.KeyValue.{KeyValue}
 use Rattle.request_parts.specs.Views.{KeyValueLies, keyValueView}
 use Rattle.entry_showing.specs.Slices.{cutAt, cut-part}

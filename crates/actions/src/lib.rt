@@ -82,7 +82,7 @@ fn delete(out: &mut [u8], by: &[u8], a: Address, store: &mut [u8], s: &[u8], k: 
     let key = k.key.start;
     let old = k.expected.start;
     let force = flag_of(k.force);
-    let code = operations::delete(
+    let code = deletion::delete(
         store,
         &s[key..key + k.key.len],
         &s[old..old + k.expected.len],
@@ -97,7 +97,7 @@ fn setup(out: &mut [u8], by: &[u8], a: Address, device: &mut Record, version: Nu
     requires { ⌜ (4096 ≤ length (now out)) × (length (now by) ≤ 64) ⌝ }
     ensures { λ r. ⌜ ((t : State) → t .device ≡ now (device .entry) → Sent (replied a (now (by .entry)) (setUp t (numView version))) r (now (out .entry)) (now (out .exit)) (withDevice t (now (device .exit)))) ⌝ }
 {
-    operations::setup(device, version.has, version.value);
+    cluster_setup::setup(device, version.has, version.value);
     status(out, by, a, 1)
 }
 

@@ -1,41 +1,33 @@
--- Laws of PUT, DELETE and SETUP.
+-- Laws of PUT.
 use mathlib.Core.Path.{_≡_, refl, sym, ap, _∙_, subst}
 use mathlib.Core.Bool.{Bool, true, false}
-use mathlib.Core.List.{List, []}
-use mathlib.Core.Option.{Option, none, some}
+use mathlib.Core.List.{List}
 use Prim.Native.Nat.{ℕ, _≤_}
 use native.Mathlib.Omega.{arith}
 use lib.Dec.{eqb, leb}
 use lib.ListN.{length}
-use borrow.Author.Tests.{eq-eqb, ne-eqb, leb-true}
+use borrow.Author.Tests.{leb-true}
 use Rattle.wire.specs.Reader.{choose}
-use Rattle.tree.specs.Tree.{guard}
 use Rattle.access.specs.Table.{both, either, within, sameBytes}
 use Rattle.access.specs.Laws.{both-fst, both-snd, within-low, within-high}
-use Rattle.access.specs.Record.{withClusterVersion}
 use Rattle.block.specs.Block.{fitTest}
 use Rattle.block.specs.Decides.{agree, says-yes, fit-decides}
 use Rattle.block.specs.Entry.{Entry, entry, Fit}
 use Rattle.store.specs.declared.PutAnswer.{PutAnswer}
 use Rattle.store.specs.declared.PutAnswer.the-variants.{Stored, Full, Unfit}
-use Rattle.store.specs.declared.Found as found
-use Rattle.store.specs.Store.{entriesOf, Good}
-use Rattle.store.specs.Entries.{pick, findIn, hasRoom, putAnswer, putStore, deleteStore}
-use Rattle.store.specs.Kept.{put-kept, put-same, delete-kept}
-use Rattle.store_write.specs.Change.{kept}
-use Rattle.protocol.specs.State.{State, withDevice}
+use Rattle.store.specs.Store.{Good}
+use Rattle.store.specs.Entries.{pick, hasRoom, putAnswer, putStore}
+use Rattle.store.specs.Kept.{put-kept, put-same}
+use Rattle.protocol.specs.State.{State}
 use Rattle.protocol.specs.Command.{KeyValue}
-use Rattle.protocol.specs.Judge.{bare, fails, succeeds, changed, setUp, entryAt, entryOf, versionOf, put, deleteBy, keyValueGood, newEntry}
+use Rattle.protocol.specs.Judge.{fails, changed, entryOf, versionOf, put, keyValueGood, newEntry}
 use Rattle.versions.specs.declared.Version.{Version}
-use Rattle.versions.specs.declared.Version.the-variants.{Same, Other, Absent}
 use Rattle.versions.specs.Given.{versionFound, versionFits}
 use Rattle.versions.specs.Laws.{version-fits}
-use Rattle.operations.specs.Given.{putCode, deleteCode, Puts, Deletes, Changed, Set}
+use Rattle.operations.specs.Given.{putCode, Puts, Changed}
 
 never : {A : Type 0} → _≡_ {A = ℕ} 0 1 → A
 never z = absurd (omega arith)
-
--- ---- PUT
 
 module _ (l : List ℕ) (e : Entry) (f : Fit e) where
   fits : fitTest e ≡ true
@@ -113,77 +105,4 @@ put-fits k v e h a =
       tag-fits = leb-true (length (k .tag)) 32 (both-snd o t (both-snd n (both o t) r));
       value-fits = h;
       algorithm-fits = a;
-    }
-
--- ---- DELETE
-
-module _ {l key old : List ℕ} {f : Bool} {k : KeyValue} (g : Good l) (p : Deletes k key old f) where
-  -- a key that is missing leaves every byte
-  missing : (s : State) → s .store ≡ l → entryOf s key ≡ none → deleteStore l key ≡ l
-  missing s q n = go (findIn key (entriesOf l)) refl (sym (ap (λ (m : List ℕ). entryAt s (findIn key (entriesOf m))) q) ∙ n)
-    where
-      go : (o : found.Found) → findIn key (entriesOf l) ≡ o → entryAt s (findIn key (entriesOf l)) ≡ none → deleteStore l key ≡ l
-      go (found.the-variants.At i) e z = never (let y = sym (ap (entryAt s) e) ∙ z in cc)
-      go (found.the-variants.Gap i) e z = sym (kept l g key i (sym e) .1)
-
-  delete-as : (s : State) → s .store ≡ l → (o : Option Entry)
-      → deleteBy s k o ≡ deleteBy s (record { newVersion = k .newVersion; key = key; dbVersion = old; tag = k .tag; algorithm = k .algorithm; metadataOnly = k .metadataOnly; force = f }) o
-  delete-as s q o =
-      λ i. deleteBy s (record { newVersion = k .newVersion; key = p .is-key i; dbVersion = p .is-old i; tag = k .tag; algorithm = k .algorithm; metadataOnly = k .metadataOnly; force = p .is-force i }) o
-
-  -- DELETE by how the version stands
-  delete-by : (s : State) → s .store ≡ l → (o : Option Entry) → (o ≡ none → deleteStore l key ≡ l)
-      → deleteBy s (record { newVersion = k .newVersion; key = key; dbVersion = old; tag = k .tag; algorithm = k .algorithm; metadataOnly = k .metadataOnly; force = f }) o
-      ≡ choose (eqb (deleteCode (versionFound old o) f) 1) (changed s (deleteStore l key)) (fails s (deleteCode (versionFound old o) f))
-  delete-by s q none n = go f
-    where
-      go : (f : Bool) → choose f (changed s (s .store)) (fails s 7) ≡ choose (eqb (deleteCode Absent f) 1) (changed s (deleteStore l key)) (fails s (deleteCode Absent f))
-      go true = ap (changed s) (q ∙ sym (n refl))
-      go false = refl
-  delete-by s q (some e) n = go f (sameBytes old (e .version))
-    where
-      go : (f b : Bool)
-          → choose (either f b) (changed s (deleteStore (s .store) key)) (fails s 8)
-          ≡ choose (eqb (deleteCode (choose b Same Other) f) 1) (changed s (deleteStore l key)) (fails s (deleteCode (choose b Same Other) f))
-      go true b = ap (λ (m : List ℕ). changed s (deleteStore m key)) q
-      go false true = ap (λ (m : List ℕ). changed s (deleteStore m key)) q
-      go false false = refl
-
-  module _ (w : Version) (h : (s : State) → s .store ≡ l → w ≡ versionFound old (entryOf s key)) (c : ℕ) (d : c ≡ deleteCode w f) where
-    delete-whole : (s : State) → s .store ≡ l → deleteBy s k (entryOf s (k .key)) ≡ choose (eqb c 1) (changed s (deleteStore l key)) (fails s c)
-    delete-whole s q =
-        ap (λ (x : List ℕ). deleteBy s k (entryOf s x)) (p .is-key)
-        ∙ delete-as s q (entryOf s key)
-        ∙ delete-by s q (entryOf s key) (missing s q)
-        ∙ ap (λ (c : ℕ). choose (eqb c 1) (changed s (deleteStore l key)) (fails s c)) (ap (λ (w : Version). deleteCode w f) (sym (h s q)) ∙ sym d)
-
-    pub delete-wrong : (c ≡ 1 → ⊥) → Changed (λ s. deleteBy s k (entryOf s (k .key))) c l l
-    delete-wrong n =
-        record {
-          whole = λ s q. delete-whole s q ∙ ap (λ (t : Bool). choose t (changed s (deleteStore l key)) (fails s c)) (ne-eqb c 1 n) ∙ sym (ap (λ (t : Bool). choose t (changed s l) (fails s c)) (ne-eqb c 1 n));
-          kept = λ z. refl;
-          good = g;
-        }
-
-    pub delete-right : c ≡ 1 → {m : List ℕ} → m ≡ deleteStore l key → Changed (λ s. deleteBy s k (entryOf s (k .key))) 1 l m
-    delete-right n {m} y =
-        subst (λ (m : List ℕ). Changed (λ s. deleteBy s k (entryOf s (k .key))) 1 l m) (sym y)
-        (record {
-          whole = λ s q. delete-whole s q ∙ ap (λ (t : Bool). choose t (changed s (deleteStore l key)) (fails s c)) (eq-eqb c 1 n);
-          kept = λ z. never (cc);
-          good = delete-kept l g key .good;
-        })
-
--- ---- SETUP
-
-pub set-none : (l : List ℕ) (given : Bool) (v : ℕ) → given ≡ false → Set l (guard given v) l
-set-none l given v e =
-    record { whole = λ s q. ap (λ (b : Bool). setUp s (guard b v)) e ∙ ap (λ (m : List ℕ). succeeds (withDevice s m) bare []) q }
-
-pub set-some : (l : List ℕ) (given : Bool) (v : ℕ) → given ≡ true → {m : List ℕ} → m ≡ withClusterVersion l v → Set l (guard given v) m
-set-some l given v e y =
-    record {
-      whole = λ s q.
-          ap (λ (b : Bool). setUp s (guard b v)) e ∙ ap (λ (m : List ℕ). succeeds (withDevice s (withClusterVersion m v)) bare []) q
-          ∙ ap (λ (m : List ℕ). succeeds (withDevice s m) bare []) (sym y);
     }

@@ -1,18 +1,13 @@
-// Document 01, "What each does": PUT, DELETE and SETUP over the lent store and record.
-use access::Record;
+// Document 01, "What each does": PUT over the lent store.
 use store::PutAnswer;
-use versions::Version;
 use versions::compare_version;
 use versions::version_fits;
 ghost use mathlib.Core.Path.{_≡_};
-ghost use Rattle.tree.specs.Tree.{guard};
 ghost use Rattle.block.specs.Entry.{entry, Fit};
 ghost use Rattle.store.specs.Store.{Good};
 ghost use Rattle.protocol.specs.Command.{KeyValue};
-ghost use Rattle.protocol.specs.Judge.{entryOf, put, deleteBy};
-ghost use Rattle.operations.specs.Given.{deleteCode, putCode, Puts, Deletes, Changed, Set};
-
-// ---- PUT, DELETE
+ghost use Rattle.protocol.specs.Judge.{put};
+ghost use Rattle.operations.specs.Given.{putCode, Puts, Changed};
 
 fn put_code(a: PutAnswer) -> u64
     ensures { λ r. ⌜ r ≡ putCode a ⌝ }
@@ -42,41 +37,4 @@ pub fn put(
         return 8;
     }
     put_code(store_put::put(store, key, new, tag, value, algorithm))
-}
-
-fn delete_code(v: Version, force: bool) -> u64
-    ensures { λ r. ⌜ r ≡ deleteCode v force ⌝ }
-{
-    if force {
-        return 1;
-    }
-    match v {
-        Version::Same => 1,
-        Version::Other => 8,
-        Version::Absent => 7,
-    }
-}
-
-// The status code: 1, 7 or 8.
-pub fn delete(store: &mut [u8], key: &[u8], old: &[u8], force: bool) -> u64
-    requires { ⌜ Good (now store) ⌝ }
-    ensures { λ r. ⌜ ((k : KeyValue) → Deletes k (now (key .entry)) (now (old .entry)) force → Changed (λ s. deleteBy s k (entryOf s (k .key))) r (now (store .entry)) (now (store .exit))) ⌝ }
-{
-    let code = delete_code(compare_version(store, key, old), force);
-    if code != 1 {
-        return code;
-    }
-    store_delete::delete(store, key);
-    1
-}
-
-// ---- SETUP
-
-pub fn setup(device: &mut Record, given: bool, version: u64)
-    ensures { λ _. ⌜ Set (now (device .entry)) (guard given version) (now (device .exit)) ⌝ }
-{
-    if !given {
-        return;
-    }
-    access_write::set_cluster_version(device, version);
 }

@@ -1,7 +1,7 @@
-use Rattle.operations.specs.Changes.{delete-wrong, delete-right}
+use Rattle.deletion.specs.Laws.{delete-wrong, delete-right}
 use borrow.Author.Needs.{needs}
-use Rattle.operations.proofs.delete.Statement.{statement}
-use Rattle.operations.proofs.delete.Tie as tie
+use Rattle.deletion.proofs.delete.Statement.{statement}
+use Rattle.deletion.proofs.delete.Tie as tie
 
 compare-version-requires : tie.Need-compare-version-requires
 compare-version-requires c κs = search needs

@@ -1,9 +1,9 @@
 use denote.Ref.{now}
 use borrow.Author.Tests.{not-true, not-false}
-use Rattle.operations.specs.Changes.{set-none, set-some}
+use Rattle.cluster_setup.specs.Laws.{set-none, set-some}
 use borrow.Author.Needs.{needs}
-use Rattle.operations.proofs.setup.Statement.{statement}
-use Rattle.operations.proofs.setup.Tie as tie
+use Rattle.cluster_setup.proofs.setup.Statement.{statement}
+use Rattle.cluster_setup.proofs.setup.Tie as tie
 
 returns : tie.Need-returns
 returns c = let a = c .before .args in set-none (now (a .device)) (a .given) (a .version) (not-true (a .given) (c .if1 .taken))

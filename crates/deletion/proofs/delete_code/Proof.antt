@@ -1,8 +1,8 @@
 use mathlib.Core.Path.{sym, ap₂}
-use Rattle.operations.specs.Given.{deleteCode}
+use Rattle.deletion.specs.Given.{deleteCode}
 use borrow.Author.Needs.{needs}
-use Rattle.operations.proofs.delete_code.Statement.{statement}
-use Rattle.operations.proofs.delete_code.Tie as tie
+use Rattle.deletion.proofs.delete_code.Statement.{statement}
+use Rattle.deletion.proofs.delete_code.Tie as tie
 
 returns : tie.Need-returns
 returns c = search needs
