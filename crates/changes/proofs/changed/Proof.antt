@@ -5,10 +5,10 @@ use Prim.Native.Nat.{ℕ}
 use denote.Ref.{now}
 use lib.Dec.{eqb}
 use Rattle.protocol.specs.State.{State, withStore}
-use Rattle.actions.proofs.Results.{not-done, is-done}
+use Rattle.changes.proofs.Results.{not-done, is-done}
 use borrow.Author.Needs.{needs}
-use Rattle.actions.proofs.changed.Statement.{statement}
-use Rattle.actions.proofs.changed.Tie as tie
+use Rattle.changes.proofs.changed.Statement.{statement}
+use Rattle.changes.proofs.changed.Tie as tie
 
 status-requires : tie.Need-status-requires
 status-requires c κs = search needs

@@ -1,11 +1,11 @@
 use denote.Ref.{now}
 use native.Mathlib.Omega.{arith}
 use Rattle.request_parts.specs.Views.{keyValueView}
-use Rattle.actions.proofs.Slices.{puts, fits}
-use Rattle.actions.proofs.Results.{has-changed}
+use Rattle.changes.proofs.Slices.{puts, fits}
+use Rattle.changes.proofs.Results.{has-changed}
 use borrow.Author.Needs.{needs}
-use Rattle.actions.proofs.put.Statement.{statement}
-use Rattle.actions.proofs.put.Tie as tie
+use Rattle.changes.proofs.put.Statement.{statement}
+use Rattle.changes.proofs.put.Tie as tie
 
 abbrev S : tie.After-struct-known → tie.Start
 S c = c .before .before .before .before .before .before .before

@@ -1,11 +1,11 @@
 use denote.Ref.{now}
 use native.Mathlib.Omega.{arith}
 use Rattle.request_parts.specs.Views.{keyValueView}
-use Rattle.actions.proofs.Slices.{deletes}
-use Rattle.actions.proofs.Results.{has-changed}
+use Rattle.changes.proofs.Slices.{deletes}
+use Rattle.changes.proofs.Results.{has-changed}
 use borrow.Author.Needs.{needs}
-use Rattle.actions.proofs.delete.Statement.{statement}
-use Rattle.actions.proofs.delete.Tie as tie
+use Rattle.changes.proofs.delete.Statement.{statement}
+use Rattle.changes.proofs.delete.Tie as tie
 
 flag-of-requires : tie.Need-flag-of-requires
 flag-of-requires c κs = search needs
