@@ -36,15 +36,19 @@ class Load(threading.Thread):
     def __init__(self, state, server, cut, seed):
         super().__init__(daemon=True)
         self.state, self.server, self.cut, self.r, self.failure = state, server, cut, random.Random(seed), None
+        self.connected = threading.Event()
 
     def run(self):
         try:
             with Client(self.server.address, model.Box(bytes(model.BLOCK), record(self.state.sure))) as client:
+                self.connected.set()
                 self.work(client)
         except (Lost, OSError) as why:
             self.failure = None if self.cut.is_set() else f"the connection was lost while the server ran: {why!r}"
         except Failed as why:
             self.failure = why
+        finally:
+            self.connected.set()
 
     @staticmethod
     def heard(client):
@@ -115,9 +119,15 @@ class Writer(Load):
 
 
 class Setter(Load):
-    """Raises the cluster version now and then."""
+    """Raises the cluster version now and then, once the others are connected: their first NOOP names the version that was there before."""
+
+    def __init__(self, others, *given):
+        super().__init__(*given)
+        self.others = others
 
     def work(self, client):
+        for load in self.others:
+            load.connected.wait()
         while True:
             time.sleep(self.r.random() * .03)
             self.state.asked = self.state.sure + 1
@@ -197,17 +207,18 @@ def killed(site, path, state):
     same("used blocks", server.used, sum(len(model.entries_of(store)) for store in state.stores))
     given = [(state, server, cut, site.random.random()) for _ in range(WRITERS + 2)]
     writers = [Writer(n, *given[n]) for n in range(WRITERS)]
-    others = [Setter(*given[-1]), Reader(*given[-2])]
-    for load in writers + others:
+    reader = Reader(*given[-2])
+    loads = [*writers, reader, Setter([*writers, reader], *given[-1])]
+    for load in loads:
         load.start()
     time.sleep(site.random.choice((.05, .3, .6)) * site.random.random() + .01)
     cut.set()
     server.end(site.random.choice(SIGNALS))
-    for load in writers + others:
+    for load in loads:
         load.join()
-    for load in writers + others:
+    for load in loads:
         hold(f"{type(load).__name__}: {load.failure}", load.failure is None)
-    return writers, others[1]
+    return writers, reader
 
 
 def crash(site):
