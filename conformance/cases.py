@@ -1,13 +1,16 @@
-"""The sample cases of a folder (answers.jsonl, calls.jsonl; README.md beside them has their form) as calls, with what each expects there to be after it.
+"""The sample cases of a folder (answers.jsonl, calls.jsonl, cr5.jsonl; README.md beside them has their form) as calls, with what each expects there to be
+after it.
 
-The cases are another model's answers. They speak of a table, not of a record: one that a record can't hold is left out and counted. They are older than
-change request 1: one that sends messageType 24 or body field 6, which it changes, is left out and counted too.
+The cases are another model's answers. They speak of a table, not of a record: one that a record can't hold is left out and counted. Those of answers.jsonl
+are older than change requests 1 and 5: one that sends messageType 24 or body field 6, or a field twice that may now come twice, is left out and counted too.
 """
 import json
 import pathlib
 
 import box
 import model
+from messages import Field, levels, part
+from shrink import loose
 
 READINGS = bytes(model.READINGS)  # none lent
 
@@ -16,17 +19,32 @@ class LeftOut(Exception):
     """Why a case is left out."""
 
 
-NOT_HELD, OLDER = "of a table that no record can hold", "of what change request 1 changes"
+NOT_HELD, LOG, TWICE = "of a table that no record can hold", "of what change request 1 changes", "of what change request 5 changes"
 
 
-def asks_for_log(data):
-    """Whether an input is a message whose command has messageType 24 or body field 6."""
-    try:
-        command = model.decode("Message", model.framed(data)[1] or b"").get(7, b"")
-        parts = [(number, model.fields_of(content)) for number, wire, content in model.fields_of(command) if number in (1, 2) and wire == 2]
-    except model.Refused:
-        return False
-    return any(number == 1 and (7, 0, 24) in fields or number == 2 and any(field[0] == 6 for field in fields) for number, fields in parts)
+def asks_for_log(message):
+    """Whether a message, as a tree, has a command with messageType 24 or body field 6."""
+    header, body = (part(message, 7, number) for number in (1, 2))
+    return Field(7, 24) in header or any(isinstance(item, Field) and item.number == 6 for item in body)
+
+
+def sends_twice(message):
+    """Whether a message, as a tree, has a field twice at some depth that change request 5 lets come twice."""
+    for kind, items, _ in levels(message):
+        numbers = [item.number for item in items if isinstance(item, Field)]
+        singular = {n for n, form in model.LISTED[kind].items() if form != "r" and (kind, n) not in model.REPEATED | model.ONCE}
+        if any(numbers.count(number) > 1 for number in singular):
+            return True
+    return False
+
+
+def older(data):
+    """Raises where an input is a message of what change requests 1 or 5 change."""
+    message = loose(model.framed(data)[1] or b"", "Message")
+    if asks_for_log(message):
+        raise LeftOut(LOG)
+    if sends_twice(message):
+        raise LeftOut(TWICE)
 
 
 def unhexed(said):
@@ -70,14 +88,15 @@ def connection_bytes(said):
 
 
 def answer_case(said):
-    wanted = said["expect"]
-    if asks_for_log(bytes.fromhex(said["input"])):
-        raise LeftOut(OLDER)
+    wanted, data = said["expect"], bytes.fromhex(said["input"])
+    if "crs" not in said:
+        older(data)
+    readings = bytes.fromhex(said["readings"]) if "readings" in said else READINGS
     call = box.Call("answer", store=store_bytes(said["store"]), record=record_bytes(said["table"]), connection=connection_bytes(said["conn"]),
-                    readings=READINGS, input=bytes.fromhex(said["input"]), room=said["out_len"])
+                    readings=readings, input=data, room=said["out_len"])
     after = {"returned": wanted["refusal"] or 0, "store": call["store"] if wanted["store"] == "same" else store_bytes(wanted["store"]),
              "record": call["record"] if wanted["table"] == "same" else record_bytes(wanted["table"]), "connection": connection_bytes(wanted["conn"]),
-             "readings": READINGS, "input": call["input"], "out": box.FILL[:call["room"]], "counts": box.FILL[:16]}
+             "readings": readings, "input": data, "out": box.FILL[:call["room"]], "counts": box.FILL[:16]}
     if not wanted["refusal"]:
         reply = bytes.fromhex(wanted["reply"])
         after.update(out=reply + after["out"][len(reply):], counts=box.counted(wanted["taken"], len(reply)))
@@ -123,7 +142,7 @@ def block_case(entry, wanted):
 
 def read(folder):
     """Each case of a folder: its name, and the call with what is expected of things after it, or why it is left out."""
-    for name, made in ("answers.jsonl", answer_case), ("calls.jsonl", other_case):
+    for name, made in ("answers.jsonl", answer_case), ("cr5.jsonl", answer_case), ("calls.jsonl", other_case):
         for number, line in enumerate((pathlib.Path(folder) / name).read_text().splitlines()):
             said = json.loads(line)
             try:

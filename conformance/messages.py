@@ -71,15 +71,14 @@ def replaced(items, way, new):
 
 
 def sub(items, number):
-    """The content of the first field of that number, None where there is none."""
-    return next((item.content for item in items if isinstance(item, Field) and item.number == number), None)
+    """The content of the last field of that number, which counts; None where there is none."""
+    return next((item.content for item in reversed(items) if isinstance(item, Field) and item.number == number), None)
 
 
 def part(items, *way):
-    """The items of the message at a way, by field numbers; none where there is no such message."""
+    """The items of the messages at a way, by field numbers, one occurrence after the other; none where there is no such message."""
     for number in way:
-        inner = sub(items, number)
-        items = inner if isinstance(inner, list) else []
+        items = [inner for item in items if isinstance(item, Field) and item.number == number and isinstance(item.content, list) for inner in item.content]
     return items
 
 
@@ -93,12 +92,10 @@ def put_in(items, number, content):
 
 
 def signed(items, key):
-    """The bytes of a message, with the digest of its first commandBytes."""
+    """The bytes of a message, with the digest of the commandBytes that count."""
     command = sub(items, 7)
     if isinstance(command, list):
         command = encoded(command)
-        place = next(n for n, item in enumerate(items) if isinstance(item, Field) and item.number == 7)
-        items = items[:place] + [items[place]._replace(content=command)] + items[place + 1:]
     return encoded(items, model.hmac_of(key, command if isinstance(command, bytes) else b""))
 
 

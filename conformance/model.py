@@ -1,4 +1,4 @@
-"""A model of the box, written from document 01, change requests 1 and 6, their readings (docs/DECISIONS.md) and the layouts of the device record, the
+"""A model of the box, written from document 01, change requests 1, 5 and 6, their readings (docs/DECISIONS.md) and the layouts of the device record, the
 connection and the lent readings alone.
 
 Nothing here is taken from the Rattle code, so that the two can be held against each other. Store and device record are bytes, as the host lends them.
@@ -433,6 +433,8 @@ LISTED = {
     "Status": {1: set(STATUS.values())},
 }
 REPEATED = {("GetLog", 1), ("Security", 2), ("ACL", 4), ("Scope", 3), ("ReplyRange", 8), ("ReplyLog", 2), ("ReplyLog", 3)}
+# Change request 5: singular fields that are refused when they come again. Of any other the last value counts, and messages are merged.
+ONCE = {("Body", 7), ("ReplyBody", 7), ("ACL", 1), ("ACL", 2), ("ACL", 3), ("Scope", 1), ("Scope", 2), ("Scope", 4)}
 STRICT = {"Security", "ACL", "Scope"}
 
 
@@ -452,8 +454,23 @@ def decoded_field(form, wire, content):
     return value
 
 
+def merge(kind, said, more):
+    """The fields of a message, and those of a later occurrence put to them, at every depth."""
+    for number, value in more.items():
+        if number not in said:
+            said[number] = value
+        elif (kind, number) in ONCE:
+            raise Refused
+        elif (kind, number) in REPEATED:
+            said[number] += value
+        elif isinstance(value, dict):
+            merge(LISTED[kind][number], said[number], value)
+        else:
+            said[number] = value
+
+
 def decode(kind, data):
-    """The listed fields of a message by number; a list of values where a number may repeat."""
+    """The listed fields of a message by number; a list of values where a number may repeat. Each occurrence of a field decodes by itself."""
     said = {}
     for number, wire, content in fields_of(data):
         form = LISTED[kind].get(number)
@@ -462,12 +479,7 @@ def decode(kind, data):
                 raise Refused
             continue
         value = decoded_field(form, wire, content)
-        if (kind, number) in REPEATED:
-            said.setdefault(number, []).append(value)
-        elif number in said:
-            raise Refused
-        else:
-            said[number] = value
+        merge(kind, said, {number: [value] if (kind, number) in REPEATED else value})
     return said
 
 

@@ -23,6 +23,37 @@ import run
 TOP = run.TOP
 PLACE = TOP / "target" / "conformance" / "mutants"
 
+# Where a field of an ACL and of a Scope is judged to be listed, and to come once.
+ONCE = "        if (!next(&m, &f) || f.number > 4 || has(seen, f.number)) return 0;\n        if (f.number == 1) {\n            if (!read_number(&f, &seen, "
+INSIDE_ACL, INSIDE_SCOPE = ONCE + "&identity)", ONCE + "&offset)"
+
+
+def kept(line, what, when):
+    """A line of a reader that leaves what was read before, on a condition."""
+    return line.replace("good = ", f"{{ int64_t was = {what}; int keep = {when}; good = ").replace(" break;", f" if (keep) {what} = was; }} break;")
+
+
+def if_later(line, number):
+    """A line of a reader whose failure is forgiven where the same field comes again."""
+    return line.replace(" break;", f" for (bytes rest = m; !good && rest.n && next(&rest, &f);) good = f.number == {number}; break;")
+
+
+def if_last(number, refused):
+    """A part of a command in which a refused-if-present field is looked for in the last occurrence alone."""
+    return ("{ int later = 0, there = 0; field g = {0}; for (bytes rest = m; rest.n && next(&rest, &g);) later |= g.number == %d; "
+            "for (bytes rest = f.data; f.wire == 2 && rest.n && next(&rest, &g);) there |= g.number == %d; good = later && there || " % (number, refused))
+
+
+HEADER_READ, BODY_READ = "case 1: good = f.wire == 2 && read_header(f.data, &c->header); break;", "case 2: good = f.wire == 2 && read_body(f.data, c); break;"
+TYPE_READ, KEY_READ = "case 7: good = read_small(&f, &h->seen, &h->type); break;", "case 3: good = read_bytes(&f, &v->seen, &v->key); break;"
+SEQUENCE_READ, MOST_READ = "case 4: good = read_number(&f, &h->seen, &h->sequence); break;", "case 5: good = read_small(&f, &r->seen, &r->most); break;"
+PRIORITY_READ, AUTH_TYPE_READ = ("case 12: good = read_enum(&f, &h->seen, &unused, PRIORITIES); break;",
+                                 "case 4: good = read_small(&f, &to->seen, &to->auth_type); break;")
+KEYVALUE_READ, RANGE_READ, SETUP_READ, LOG_READ = ("read_key_value(f.data, &c->key_value); break;", "read_range(f.data, &c->range); break;",
+                                                   "read_setup(f.data, &c->setup); break;", "read_log(f.data, &c->log); break;")
+AUTH_READ, COMMAND_READ = "case 5: good = met(&f, 2, &to->seen) && read_auth(f.data, to); break;", "case 7: good = read_bytes(&f, &to->seen, &to->command);"
+SECURITY_READ = "case 7: good = !has(c->body, 7) && met(&f, 2, &c->body) && read_security(f.data, c->table); break;"
+
 # Each fault: what is wrong with the box, and an edit of its source.
 FAULTS = [
     ("a tag of 33 is accepted", "v->tag.n <= 32 &&", "v->tag.n <= 33 &&"),
@@ -48,8 +79,10 @@ FAULTS = [
     ("a field of Body that is refused is skipped", "        case 9:\n        case 10: good = 0;\n", "        case 9: good = 0;\n"),
     ("keys in a request's range are skipped", "case 8: good = 0; break;", "case 8: good = 1; break;"),
     ("firmwareDownload is skipped", "if (!next(&m, &f) || f.number == 5) return 0;", "if (!next(&m, &f)) return 0;"),
-    ("an unlisted field of an ACL is skipped", "        } else return 0;\n    }\n    if (!has(seen, 1)", "        }\n    }\n    if (!has(seen, 1)"),
-    ("an unlisted field of a Scope is skipped", "f.number != 4 || !read_flag(&f, &seen, &tls)", "f.number == 4 && !read_flag(&f, &seen, &tls)"),
+    ("an unlisted field of an ACL is skipped", INSIDE_ACL,
+     INSIDE_ACL.replace("f.number > 4 || has(seen, f.number)) return 0;", "(f.number <= 4 && has(seen, f.number))) return 0;\n        if (f.number > 4) continue;")),
+    ("an unlisted field of a Scope is skipped", INSIDE_SCOPE,
+     INSIDE_SCOPE.replace("f.number > 4 || has(seen, f.number)) return 0;", "(f.number <= 4 && has(seen, f.number))) return 0;\n        if (f.number > 4) continue;")),
     ("an unlisted field of a Setup is refused", "if (f.number == 1 && !read_number(&f, &s->seen, &s->cluster)) return 0;",
      "if (f.number != 1 || !read_number(&f, &s->seen, &s->cluster)) return 0;"),
     ("an unlisted field of a Message with a high number is refused", "if (!read_varint(m, &tag) || tag >> 32 || tag < 8) return 0;",
@@ -60,8 +93,7 @@ FAULTS = [
     ("wire type 3 is skipped", "default: return 0;\n    }\n    if (n > m->n)", "case 3: break;\n    default: return 0;\n    }\n    if (n > m->n)"),
     ("a tenth byte of 3", "i == 9 && b > 1", "i == 9 && b > 3"),
     ("varints of nine bytes at most", "i < m->n && i < 10", "i < m->n && i < 9"),
-    ("a singular field twice", "f->wire == wire && !(*seen & bit)", "f->wire == wire"),
-    ("a listed field with another wire type", "f->wire == wire && !(*seen & bit)", "!(*seen & bit)"),
+    ("a listed field with another wire type", "return f->wire == wire;", "return 1;"),
     ("an int32 is cut to its low half", "return read_number(f, seen, to) && *to >= INT32_MIN && *to <= INT32_MAX;",
      "int good = read_number(f, seen, to); *to = (int32_t)*to; return good;"),
     ("a bool is its low half", "*to = f->value != 0;", "*to = (uint32_t)f->value != 0;"),
@@ -215,6 +247,75 @@ FAULTS = [
      "if (value > (type == PUT ? 384 : 0) || (type != GETLOG && has(c->body, 6))) return INVALID_REQUEST;"),
     ("readings are written", "    box b = {store, store_len,", "    if (readings[0]) ((uint8_t *)readings)[2] = readings[2] != 0;\n    box b = {store, store_len,"),
     ("a byte after the readings is read", "    if (closes) {\n", "    if (closes || ((volatile const uint8_t *)readings)[readings_len] & 0) {\n"),
+    # fields sent twice
+    ("HMACauth twice is refused", AUTH_READ, AUTH_READ.replace("good = ", "good = !has(to->seen, 5) && ")),
+    ("commandBytes twice are refused", COMMAND_READ, COMMAND_READ.replace("good = ", "good = !has(to->seen, 7) && ")),
+    ("a header twice is refused", HEADER_READ, HEADER_READ.replace("good = ", "good = !c->header.seen && ")),
+    ("a body twice is refused", BODY_READ, BODY_READ.replace("good = ", "good = !c->body && ")),
+    ("a key twice is refused", KEY_READ, KEY_READ.replace("good = ", "good = !has(v->seen, 3) && ")),
+    ("the first bytes count", "    *to = f->data;\n", "    if (!has(*seen, f->number)) *to = f->data;\n"),
+    ("the first flag counts", "    *to = f->value != 0;\n", "    if (!has(*seen, f->number)) *to = f->value != 0;\n"),
+    ("the first key counts", KEY_READ, KEY_READ.replace("good = ", "good = has(v->seen, 3) ? f.wire == 2 : ")),
+    ("the first messageType counts", TYPE_READ, kept(TYPE_READ, "h->type", "has(h->seen, 7)")),
+    ("the first sequence counts", SEQUENCE_READ, kept(SEQUENCE_READ, "h->sequence", "has(h->seen, 4)")),
+    ("the larger sequence counts", SEQUENCE_READ, kept(SEQUENCE_READ, "h->sequence", "has(h->seen, 4) && h->sequence > (int64_t)f.value")),
+    ("an empty later value is passed over", "    *to = f->data;\n", "    if (f->data.n || !has(*seen, f->number)) *to = f->data;\n"),
+    ("a later maxReturned of 0 is passed over", MOST_READ, kept(MOST_READ, "r->most", "has(r->seen, 5) && !f.value")),
+    ("a flag once true stays true", "    *to = f->value != 0;\n", "    *to = f->value != 0 || (has(*seen, f->number) && *to);\n"),
+    ("the last header alone", HEADER_READ, HEADER_READ.replace("read_header", "(memset(&c->header, 0, sizeof c->header), 1) && read_header")),
+    ("the last keyValue alone", KEYVALUE_READ, "(memset(&c->key_value, 0, sizeof c->key_value), 1) && " + KEYVALUE_READ),
+    ("the last range alone", RANGE_READ, "(memset(&c->range, 0, sizeof c->range), 1) && " + RANGE_READ),
+    ("the last setup alone", SETUP_READ, "(memset(&c->setup, 0, sizeof c->setup), 1) && " + SETUP_READ),
+    ("the types of the last getLog alone", LOG_READ, "(memset(&c->log, 0, sizeof c->log), 1) && " + LOG_READ),
+    ("the last body alone", BODY_READ, "case 2: memset(&c->key_value, 0, sizeof c->key_value); memset(&c->range, 0, sizeof c->range); c->log.types = 0;\n"
+     "            memset(&c->setup, 0, sizeof c->setup); c->body &= 128; good = f.wire == 2 && read_body(f.data, c); break;"),
+    ("the first body alone", BODY_READ, "case 2: { command other = *c; table t; other.table = &t; if (c->body) c = &other; }\n        " + BODY_READ[8:]),
+    ("maxReturned of an earlier range is forgotten", "if (!has(r->seen, 5)) r->most = MOST_KEYS;", "r->most = MOST_KEYS;"),
+    ("the hmac of the last HMACauth alone", AUTH_READ, AUTH_READ.replace("read_auth", "(to->hmac.n = 0, 1) && read_auth")),
+    ("the identity of the last HMACauth alone", AUTH_READ, AUTH_READ.replace("read_auth", "(to->auth = 0, 1) && read_auth")),
+    ("Security twice in one body", SECURITY_READ, SECURITY_READ.replace("!has(c->body, 7) && ", "")),
+    ("Security twice where it is not used", SECURITY_READ,
+     SECURITY_READ.replace("!has(c->body, 7)", "(!has(c->body, 7) || (has(c->header.seen, 7) && c->header.type != SECURITY))")),
+    ("a second Security that is empty", SECURITY_READ, "case 7: if (has(c->body, 7) && f.wire == 2 && !f.data.n) break;\n        " + SECURITY_READ[8:]),
+    ("Security in each of two bodies", BODY_READ,
+     "case 2: { uint32_t was = c->body & 128; c->body &= ~128u; good = f.wire == 2 && read_body(f.data, c); c->body |= was; } break;"),
+    *((f"{what} twice in an ACL", INSIDE_ACL, INSIDE_ACL.replace("has(seen,", f"has(seen & ~{1 << n}u,"))
+      for n, what in ((1, "identity"), (2, "key"), (3, "hmacAlgorithm"))),
+    *((f"{what} twice in a Scope", INSIDE_SCOPE, INSIDE_SCOPE.replace("has(seen,", f"has(seen & ~{1 << n}u,"))
+      for n, what in ((1, "offset"), (2, "value"), (4, "TlsRequired"))),
+    ("only the last header must decode", HEADER_READ, if_later(HEADER_READ, 1)),
+    ("only the last body must decode", BODY_READ, if_later(BODY_READ, 2)),
+    ("only the last HMACauth must decode", AUTH_READ, if_later(AUTH_READ, 5)),
+    ("only the last priority must be named", PRIORITY_READ, if_later(PRIORITY_READ, 12)),
+    ("only the last messageType must be in range", TYPE_READ, if_later(TYPE_READ, 7)),
+    ("only the last authType must be in range", AUTH_TYPE_READ, if_later(AUTH_TYPE_READ, 4)),
+    ("only the last key must have its wire type", KEY_READ, if_later(KEY_READ, 3)),
+    ("batchID is looked for in the last header alone", HEADER_READ, HEADER_READ.replace("good = ", if_last(1, 14)).replace(" break;", " } break;")),
+    ("power is looked for in the last body alone", BODY_READ, BODY_READ.replace("good = ", if_last(2, 10)).replace(" break;", " } break;")),
+    ("a key that doesn't count is held to its limit", KEY_READ, KEY_READ.replace(
+        " break;", " for (bytes rest = m; good && v->key.n > 64 && rest.n && next(&rest, &f);) good = f.number != 3; break;")),
+    ("Message 6 twice is refused", "case 6: good = f.wire == 2; break;", "case 6: good = !has(to->seen, 6) && met(&f, 2, &to->seen); break;"),
+    ("Command 3 twice is refused", "case 3: good = f.wire == 2;\n", "case 3: good = f.wire == 2 && !(c->body >> 31);\n            c->body |= 1u << 31;\n"),
+    ("commandBytes are concatenated", COMMAND_READ,
+     "case 7: {\n            static uint8_t all[8192];\n            static size_t n;\n            if (!has(to->seen, 7)) n = 0;\n"
+     "            memcpy(all + n, f.data.at, f.wire == 2 ? f.data.n : 0);\n            n += f.wire == 2 ? f.data.n : 0;\n"
+     "            good = read_bytes(&f, &to->seen, &to->command);\n            to->command = (bytes){all, n};\n        }"),
+    ("the first commandBytes count", COMMAND_READ, "case 7: good = has(to->seen, 7) ? f.wire == 2 : read_bytes(&f, &to->seen, &to->command);"),
+    ("earlier commandBytes must decode", COMMAND_READ, "case 7: {\n            table t;\n            command c = {.table = &t};\n"
+     "            good = (!has(to->seen, 7) || read_command(to->command, &c)) && read_bytes(&f, &to->seen, &to->command);\n        }"),
+    ("signed over the first commandBytes", "    if (!acl || !verifies(acl, &m)) return",
+     "    message first = m;\n    field f = {0};\n    for (bytes rest = data; rest.n && next(&rest, &f) && f.number != 7;);\n    first.command = f.data;\n"
+     "    if (!acl || !verifies(acl, &first)) return"),
+    ("a header cut in two joins", HEADER_READ, HEADER_READ.replace(" break;", """
+            if (!good && f.wire == 2) {
+                static uint8_t all[8192];
+                size_t n = 0;
+                do {
+                    if (f.number == 1 && f.wire == 2) memcpy(all + n, f.data.at, f.data.n), n += f.data.n;
+                } while (m.n && next(&m, &f));
+                good = read_header((bytes){all, n}, &c->header);
+            }
+            break;""")),
     # the four boxes of document 01
     ("always NOT_AUTHORIZED", "if (authorized(acl, connection[8], c)) perform", "if (0) perform"),
     ("SUCCESS to all", "if (decodes) judge(b, acl, &c, value, &r);", "if (decodes) judge(b, acl, &c, value, &r);\n    r.code = SUCCESS;"),
@@ -399,6 +500,7 @@ def main():
     p.add_argument("--slice", default="0/1", help=argparse.SUPPRESS)
     given = p.parse_args()
     started = time.monotonic()
+    run.protobuf.installed()
     plan, made = tape(4000)
     if caught(build(given.source, given.source[0], given.source[0].read_text(), "plain"), made) is not None:
         sys.exit("the plain box itself differs from the model: run.py --library .. --prefix plain_ says where")

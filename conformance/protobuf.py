@@ -1,4 +1,5 @@
-"""Replies read and written again by Google's protobuf (protoc, Debian's protobuf-compiler), from a rendering of document 003 (tests/kinetic.proto).
+"""Google's protobuf (protoc, Debian's protobuf-compiler) over a rendering of document 003 (tests/kinetic.proto): messages as text, and replies read and
+written again.
 
 What protoc reads in a reply must be what the model reads in it, with document 003's names; and what protoc writes of that (fields ascending, shortest
 varints) must be the reply's own bytes again.
@@ -6,11 +7,13 @@ varints) must be the reply's own bytes again.
 import ast
 import fractions
 import pathlib
+import re
 import subprocess
 
 import model
 
 HERE = pathlib.Path(__file__).resolve().parent
+TESTS = HERE.parent / "tests"
 
 TYPES = {number - 1: name + "_RESPONSE" for name, number in model.TYPES.items()} | {-1: "INVALID_MESSAGE_TYPE"}
 CODES = {code: name for name, code in model.STATUS.items()}
@@ -19,15 +22,32 @@ AUTH_TYPES = {1: "HMACAUTH", 3: "UNSOLICITEDSTATUS"}
 
 
 def installed():
-    subprocess.run([HERE.parent / "tests/need", "protoc", "protobuf-compiler"], check=True)
+    subprocess.run([TESTS / "need", "protoc", "protobuf-compiler"], check=True)
 
 
-def protoc(how, data):
-    told = subprocess.run(["protoc", f"--proto_path={HERE}", f"--proto_path={HERE.parent / 'tests'}", f"--{how}=Replies", "replies.proto"], input=data,
+def protoc(how, data, message="Replies", file="replies.proto"):
+    told = subprocess.run(["protoc", f"--proto_path={HERE}", f"--proto_path={TESTS}", f"--{how}={message}", file], input=data,
                           stdout=subprocess.PIPE, stderr=subprocess.PIPE)
     if told.returncode != 0:
         raise ValueError(told.stderr.decode(errors="replace").strip() or f"protoc --{how} ended with {told.returncode}")
     return told.stdout
+
+
+def proto():
+    """The fields of each message of kinetic.proto, by name: number and type; and the values of each enum."""
+    fields, enums, within = {}, {}, []
+    for line in (TESTS / "kinetic.proto").read_text().splitlines():
+        line = line.split("//")[0].strip()
+        if m := re.match(r"(message|enum) (\w+) {$", line):
+            within.append(m.groups())
+            (fields if m[1] == "message" else enums).setdefault(m[2], {})
+        elif line == "}":
+            within.pop()
+        elif m := re.match(r"(?:optional|repeated) (\w+) (\w+) = (\d+);$", line):
+            fields[within[-1][1]][m[2]] = (int(m[3]), m[1])
+        elif m := re.match(r"(\w+) = (-?\d+);$", line):
+            enums[within[-1][1]][m[1]] = int(m[2])
+    return fields, enums
 
 
 FLOATS = {"value", "current", "portionFull"}  # of a log, the only messages of a reply that have these names

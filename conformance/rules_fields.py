@@ -142,28 +142,7 @@ def wire_types(rows):
     rows.row("two fields", success(acls=(Acl(1, NEW_KEY, (scope({0, 1}),)),)), secured(acl_tree(1, NEW_KEY, scope_tree([0, 1]))))
 
 
-# A content for each listed field, that changes nothing where it is not there.
-SAMPLE = {"s": 0, "i": 1, "f": 0, "b": b"", "o": b"\xff\xff"}
-
-
-def twice(rows):
-    for kind in PLACES:
-        for number, form in model.LISTED[kind].items():
-            if form == "r" or (kind, number) in model.REPEATED:
-                continue
-            for operation, host, way in hosts(kind):
-                inside = host.message
-                for step in way:
-                    inside = sub(inside, step)
-                there = sub(inside, number)
-                content = there if there is not None else 1 if isinstance(form, set) else SAMPLE.get(form, b"")
-                once = host if there is not None else host.adding((number, content), to=way)
-                rows.says("A singular listed field twice in one message is refused")
-                rows.row(f"{kind} {number} of a {operation} twice", refused_at(kind), once.adding((number, content), to=way))
-                other = content + 1 if isinstance(content, int) and form != "f" and not isinstance(form, set) else content
-                rows.row(f"{kind} {number} of a {operation} twice, apart", refused_at(kind),
-                         once.adding((20, 1) if kind not in model.STRICT else (number, other),
-                                                                                                    (number, other), to=way))
+def repeating(rows):
     rows.says("Unlisted numbers are framed and skipped: they may repeat")
     for kind in PLACES:
         if kind not in model.STRICT:

@@ -126,7 +126,6 @@ def requests(rows):
     for number in 2, 3, 4, 5, 6, 7, 8, 9:
         rows.row(f"field {number} sent alone", INVALID, ask("GETLOG", tree((6, tree((number, b""))))))
         rows.row(f"field {number} sent with type 2", success(log=[4]), logged(2).adding((number, b"\xff\xff"), (number, b""), to=GETLOG))
-    rows.row("GetLog twice", UNDECODED, logged(2).adding((6, tree((1, 2))), to=(7, 2)))
     for operation, made in GOOD.items():
         if operation != "GETLOG":
             for types in (), (3,), (7,), range(8):

@@ -9,7 +9,8 @@ Ends with 0 where nothing differs; else prints the smallest case that it can fin
   --calls N          how many random calls, beside the tables                           (12000)
   --seed S           where random numbers begin: the same seed, the same calls          (1)
   --cases FOLDER     sample cases; left out where there is no such folder               (../shared/cases beside the repository)
-  --only PART[:N]    one part, or one row or session of it: boundaries, samples, sessions, damaged, unknown, calls
+  --only PART[:N]    one part, or one row or session of it: boundaries, samples, sessions, damaged, unknown,
+                     merged, calls
   --replay FILE      plays cases that a difference printed, a line each (- for standard input)
   --list             prints the table of boundaries, by the sentences that it tests
 """
@@ -29,6 +30,7 @@ import time
 import boundaries
 import box
 import cases
+import merged
 import model
 import protobuf
 import rows
@@ -37,7 +39,7 @@ import shown
 import shrink
 
 TOP = pathlib.Path(__file__).resolve().parent.parent
-SHARES = {"sessions": .45, "damaged": .25, "unknown": .25, "calls": .05}
+SHARES = {"sessions": .45, "damaged": .22, "unknown": .23, "merged": .05, "calls": .05}
 PARTS = ["boundaries", "samples", *SHARES]
 PATIENCE = 30    # seconds for one session
 TRIAL = 5        # seconds when a case is made smaller
@@ -60,6 +62,8 @@ class Plan:
             return self.rows[index].play() if index < len(self.rows) else None
         if part == "samples":
             return sampled(self.samples[index][1]) if index < len(self.samples) else None
+        if part == "merged":
+            return merged.session(self.seed, index)
         return sessions.PARTS[part](random.Random(f"{self.seed} {part} {index}"))
 
     def enough(self, part, calls):

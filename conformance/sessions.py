@@ -3,8 +3,11 @@ after a call by document 01, from which it goes on. A session is drawn from its 
 
     sessions   several connections and identities, all operations, mostly good, so that state builds up; the store damaged and rescued from time to time
     damaged    the same with messages damaged: bits turned, bytes cut, put in, moved; with and without signing again
-    unknown    the same with unlisted fields put in at every depth: the box answers as it does without; in the security part, INVALID_REQUEST
+    unknown    the same with unlisted fields put in at every depth, and with fields sent again: the box answers as it does without; in the security part
+               an unlisted field, a singular one sent again, or a second Security is INVALID_REQUEST
     calls      format, connect, find, rescue, sha1 and hmac
+
+In all of them but the last, fields come twice in some of the messages (`repeated`).
 """
 import dataclasses
 
@@ -304,6 +307,8 @@ def sessions(r):
     for _ in range(40):
         n = site.turn()
         made = site.request(site.connections[n])
+        if r.random() < .3:
+            made = repeated(r, made)
         if r.random() < .25:
             made = site.twisted(made)
         data = made.bytes()
@@ -434,6 +439,8 @@ def damaged(r):
     for _ in range(12):
         n = site.turn()
         made = site.request(site.connections[n])
+        if r.random() < .2:
+            made = repeated(r, made)
         for _ in range(r.choice((1, 2, 3))):
             yield site.call(n, spoilt_bytes(r, made)), nothing_more
         after = yield site.call(n, made.bytes()), nothing_more
@@ -457,6 +464,56 @@ def spoilt_bytes(r, made):
     return Site.at_level(made, way, [damage(r, encoded(items, model.hmac_of(made.key, encoded(command))))]).bytes()
 
 
+# ---- Fields sent twice
+
+# Other contents of enums that are judged later.
+NAMED = {("Message", 4): (1, 2, 3, -1), ("Header", 7): (*model.TYPES.values(), 28, 29, -1)}
+
+
+def other_content(r, kind, number):
+    """A content of a listed field that decodes."""
+    form = model.LISTED[kind][number]
+    if isinstance(form, set) or (kind, number) in NAMED:
+        return r.choice(sorted(form) if isinstance(form, set) else NAMED[kind, number])
+    if form in ("b", "o"):
+        return r.choice((b"", b"a", b"key", r.randbytes(r.choice((16, 17, 20, 64, 65)))))
+    return r.choice((0, 1)) if form == "f" else r.choice([n for n in EDGES if form == "s" or -1 << 31 <= n < 1 << 31])
+
+
+def again(r, kind, item, chance):
+    """A field in several that mean the same: a message in parts, or one that counts after others that don't."""
+    number, content = item.number, item.content
+    if (kind, number) == ("Message", 7):
+        before = [Field(7, r.choice((b"", r.randbytes(9), content))) for _ in range(r.choice((1, 1, 2)))]
+        return before + [item._replace(content=twice(r, content, "Command", chance))]
+    if not isinstance(content, list):
+        return [Field(number, other_content(r, kind, number)) for _ in range(r.choice((1, 1, 2)))] + [item]
+    cuts = sorted(r.randrange(len(content) + 1) for _ in range(r.choice((1, 1, 2))))
+    return [Field(number, twice(r, content[a:b], messages.INSIDE[kind, number], chance)) for a, b in zip([0, *cuts], [*cuts, len(content)])]
+
+
+def twice(r, items, kind, chance):
+    """The items of a message with fields sent again, at every depth, in an order that keeps what counts."""
+    queues = {}
+    for item in items:
+        inner, queue = messages.INSIDE.get((kind, item.number)), queues.setdefault(item.number, [])
+        if (kind, item.number) not in model.REPEATED | model.ONCE and r.random() < chance:
+            queue += again(r, kind, item, chance)
+        elif isinstance(item.content, list) and inner not in model.STRICT:
+            queue.append(item._replace(content=twice(r, item.content, inner, chance)))
+        else:
+            queue.append(item)
+    order = [number for number, queue in queues.items() for _ in queue]
+    if r.random() < .5:
+        r.shuffle(order)
+    return [queues[number].pop(0) for number in order]
+
+
+def repeated(r, made):
+    """A request that means the same, with fields sent twice."""
+    return dataclasses.replace(made, message=twice(r, made.message, "Message", r.choice((.1, .3, .3, .8))))
+
+
 # ---- Unlisted fields
 
 def strange(r, kind, depth=0):
@@ -477,18 +534,20 @@ LOOKED_PAST = {("Message", 6), ("Command", 3)}
 
 
 def with_strange(r, items, kind="Message", chance=.3):
-    """The tree with unlisted fields put in at its field boundaries, lengths in any form, and contents that are not looked into changed; not in the
-    security part, where an unlisted field refuses the command."""
+    """The tree with unlisted fields put in at its field boundaries, lengths in any form, and contents that are not looked into changed, commandBytes that
+    don't count among them; not in the security part, where an unlisted field refuses the command."""
     made = []
+    counts = [item for item in items if isinstance(item, Field) and (kind, item.number) == ("Message", 7)][-1:]
     for item in items:
         while kind not in model.STRICT and r.random() < chance:
             made.append(strange(r, kind))
         if isinstance(item, Field):
             inner = messages.INSIDE.get((kind, item.number))
-            if isinstance(item.content, list) and inner:
-                item = item._replace(content=with_strange(r, item.content, inner, chance))
-            elif (kind, item.number) in LOOKED_PAST and isinstance(item.content, (bytes, list)) and not isinstance(item.content, Fixed):
+            past = (kind, item.number) in LOOKED_PAST or (kind, item.number) == ("Message", 7) and item is not counts[0]
+            if past and isinstance(item.content, (bytes, list)) and not isinstance(item.content, Fixed):
                 item = item._replace(content=r.randbytes(r.choice((0, 1, 7, 40))))
+            elif isinstance(item.content, list) and inner:
+                item = item._replace(content=with_strange(r, item.content, inner, chance))
             if r.random() < .1:
                 tag_room = 10 - len(model.varint(item.number * 8))
                 form_room = 10 - len(model.varint(item.content)) if isinstance(item.content, int) else 7
@@ -504,12 +563,14 @@ def unknown(r):
     for _ in range(14):
         n = site.turn()
         made = site.request(site.connections[n])
-        if r.random() < .2:
-            made = site.twisted(made)
+        twisted = r.random() < .2
+        if twisted:
+            made = site.twisted(repeated(r, made) if r.random() < .5 else made)
         first = []
         after = yield site.call(n, made.bytes()), (lambda got: first.append(got))
         for _ in range(r.choice((1, 2))):
-            other = dataclasses.replace(made, message=with_strange(r, made.message, chance=r.choice((.05, .2, .5))))
+            other = made if twisted or r.random() < .4 else repeated(r, made)
+            other = dataclasses.replace(other, message=with_strange(r, other.message, chance=r.choice((0, .05, .2, .5))))
             data = other.bytes()
             if all(model.framed(message.bytes())[0] == "WHOLE" for message in (made, other)):
                 yield site.call(n, data + r.choice((b"", b"\0", data[:30]))), (lambda got, data=data: same_as_without(first[0], got, len(data)))
@@ -519,29 +580,34 @@ def unknown(r):
 
 
 def same_as_without(before, got, length):
-    """Demand 3: the reply and the state as without the unlisted fields; exactly its own frame is taken."""
+    """Demand 3: the reply and the state as without the unlisted fields and those sent again; exactly its own frame is taken."""
     if before["returned"] != 0 or got["returned"] != 0:
-        return f"refusal {before['returned']} without the unlisted fields, {got['returned']} with them" if before["returned"] != got["returned"] else None
+        return f"refusal {before['returned']} without the fields put in, {got['returned']} with them" if before["returned"] != got["returned"] else None
     wrong = [what for what in ("store", "record", "connection") if before[what] != got[what]]
     if reply_of(before)[0] != reply_of(got)[0]:
         wrong.append("reply")
     if reply_of(got)[1] != length:
         wrong.append("bytes taken")
-    return f"unlisted fields change the {', '.join(wrong)}" if wrong else None
+    return f"the fields put in change the {', '.join(wrong)}" if wrong else None
 
 
 def strange_security(site, n):
-    """An unlisted field inside a Security, an ACL or a Scope, of a SECURITY or of another operation: INVALID_REQUEST, and nothing changes."""
+    """An unlisted field inside a Security, an ACL or a Scope, a singular one again, or a second Security in the same body or in another, of a SECURITY or of
+    another operation: INVALID_REQUEST, and nothing changes."""
     r = site.r
     made = site.request(site.connections[n])
     if sub(part(made.message, 7, 2), 7) is None:
         made = made.at(7, 2, f7=sub(table_tree(site.table()), 7))
-    inside = [level for level in levels(made.message) if level[0] in model.STRICT]
-    if not inside:
-        return
-    kind, items, way = r.choice(inside)
-    place = r.randrange(len(items) + 1)
-    call = site.call(n, site.at_level(made, way, items[:place] + [strange(r, kind)] + items[place:]).bytes())
+    how = r.choice(("unlisted", "unlisted", "again", "second"))
+    if how == "second":
+        second = tree((7, r.choice(([], part(made.message, 7, 2, 7)))))
+        made = repeated(r, made.adding(*second, to=(7, 2)) if r.random() < .5 else made.adding((2, second), to=(7,)))
+    else:
+        kind, items, way = r.choice([level for level in levels(made.message) if level[0] in (model.STRICT if how == "unlisted" else ("ACL", "Scope"))])
+        number = r.choice([item.number for item in items if how == "again" and (kind, item.number) in model.ONCE] or [None])
+        place, new = r.randrange(len(items) + 1), strange(r, kind) if number is None else Field(number, other_content(r, kind, number))
+        made = site.at_level(made, way, items[:place] + [new] + items[place:])
+    call = site.call(n, made.bytes())
     yield call, (lambda got: refused_whole(call, got))
 
 
@@ -551,7 +617,7 @@ def refused_whole(call, got):
     changed = [what for what in ("store", "record", "connection") if got[what] != call[what]]
     command = model.decode("Reply", model.decode("Message", model.framed(reply_of(got)[0])[1])[7]) if got["returned"] == 0 else None
     if changed or command is None or command[3] != {1: 16} or 6 in command[1] or command[1].get(7) != -1 or 2 in command:
-        return f"an unlisted field in the security part: {command}, changed {changed}; wanted INVALID_REQUEST without field 6, type -1, nothing changed"
+        return f"what is not to be in the security part: {command}, changed {changed}; wanted INVALID_REQUEST without field 6, type -1, nothing changed"
     return None
 
 

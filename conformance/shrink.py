@@ -207,9 +207,15 @@ def signed_tree(call, message):
     acl = next((acl for acl in table.acls if acl.identity == told[5].get(1)), None)
     if acl is None or told[5].get(2) != model.hmac_of(acl.key, told[7]):
         return items, b""
-    place = next(n for n, item in enumerate(items) if isinstance(item, Field) and item.number == 5)
-    auth = [item._replace(content=SIGNED) if isinstance(item, Field) and item.number == 2 else item for item in items[place].content]
-    return items[:place] + [items[place]._replace(content=auth)] + items[place + 1:], acl.key
+    return [with_digest(item, told[5][2]) for item in items], acl.key
+
+
+def with_digest(item, digest):
+    """An item of a message, where it is an HMACauth with this hmac marked to be signed again."""
+    if not isinstance(item, Field) or item.number != 5 or not isinstance(item.content, list):
+        return item
+    return item._replace(content=[inner._replace(content=SIGNED) if isinstance(inner, Field) and (inner.number, inner.content) == (2, digest) else inner
+                                  for inner in item.content])
 
 
 def loose(data, kind):

@@ -6,19 +6,27 @@
   tests/fields.py --hex NAME   prints the bytes of a message of messages.txt
 
 Each line of fields_main's stdin is a kind, as two hex digits, and the bytes of a message of that kind, in hex. Each line of its stdout is what
-the message says: n=VALUE; a number, n:HEX; bytes, n#HEX; a float, n{..} a message, or 'refused'. writers_main writes the messages of the list WRITTEN, in hex.
+the message says: n=VALUE; a number, n:HEX; bytes, n#HEX; a float, n{..} a message, each occurrence in its place, or 'refused'. writers_main writes the
+messages of the list WRITTEN, in hex.
 
 The bytes come from `protoc --encode` for the messages of messages.txt, whose lines are worked out here from their text and from kinetic.proto;
-and from the list RAW below, whose lines are worked out by hand. Nothing here is taken from the program. protoc is Debian's
-protobuf-compiler; if it is missing it is installed by that name.
+and from the list RAW below, whose lines are worked out by hand. A message in parts is the concatenation of what protoc makes of each: its line has the
+parts' fields, and these, merged by change request 5, must be what `protoc --decode` reads in the concatenation. Nothing here is taken from the program.
+protoc is Debian's protobuf-compiler; if it is missing it is installed by that name.
 """
-import ast, os, re, struct, subprocess, sys
+import ast, os, re, struct, sys
 
 HERE = os.path.dirname(os.path.abspath(__file__))
 CRATES = os.path.join(HERE, "..", "crates")
+sys.path.insert(0, os.path.join(HERE, "..", "conformance"))
 
+import protobuf
+
+# The kinds in fields_main's order, and protoc's names of those that stand inside another message.
 KINDS = ["Message", "HmacAuth", "Command", "Header", "Body", "KeyValue", "Range", "Setup", "Security", "Acl", "Scope",
          "ReplyCommand", "ReplyBody", "ReplyRange", "Status"]
+INSIDE = {"HmacAuth": "Message.HMACauth", "Acl": "Command.Security.ACL", "Scope": "Command.Security.ACL.Scope",
+          **{kind: f"Command.{kind}" for kind in ("Header", "Body", "KeyValue", "Range", "Setup", "Security", "Status")}}
 
 # Document 01, "Frame and fields", of the messages of kinetic.proto.
 REFUSED = {("Header", 14), ("Body", 4), ("Body", 8), ("Body", 9), ("Body", 10), ("Range", 8), ("Setup", 5)}
@@ -32,27 +40,13 @@ NAMED = {("Header", 12): {1, 3, 5, 7, 9}, ("KeyValue", 6): {1, 2, 3, 4, 5, 6}, (
          ("GetLog", 1): {0, 1, 2, 3, 4, 5, 6, 7}, ("Status", 1): {1, 2, 3, 4, 6, 7, 8, 14, 15, 16, 20}}
 # "For reading replies, Range 8 is a repeated b and Status 1 is e code"
 AS_REPLY = {("Range", 8), ("Command", 3)}
+REPEATED = {("GetLog", 1), ("Security", 2), ("ACL", 4), ("Scope", 3), ("Range", 8), ("GetLog", 2), ("GetLog", 3)}
+# Document 02, CR 5: "Security sent twice, a second singular field inside it" stay refused
+ONCE = {("Body", 7), ("ACL", 1), ("ACL", 2), ("ACL", 3), ("Scope", 1), ("Scope", 2), ("Scope", 4)}
 
 
 class Refused(Exception):
     pass
-
-
-def proto():
-    """The fields of each message, by name: number and type; and the values of each enum."""
-    fields, enums, within = {}, {}, []
-    for line in open(os.path.join(HERE, "kinetic.proto")):
-        line = line.split("//")[0].strip()
-        if m := re.match(r"(message|enum) (\w+) {$", line):
-            within.append(m.groups())
-            (fields if m[1] == "message" else enums).setdefault(m[2], {})
-        elif line == "}":
-            within.pop()
-        elif m := re.match(r"(?:optional|repeated) (\w+) (\w+) = (\d+);$", line):
-            fields[within[-1][1]][m[2]] = (int(m[3]), m[1])
-        elif m := re.match(r"(\w+) = (-?\d+);$", line):
-            enums[within[-1][1]][m[1]] = int(m[2])
-    return fields, enums
 
 
 def parsed(words):
@@ -71,7 +65,7 @@ def parsed(words):
 
 
 def says(message, said, reply):
-    """The listed fields of a message, in the order of their numbers, as protoc writes them."""
+    """The listed fields of a message, in the order of their numbers, as protoc writes them: a number with its text, or with again a list."""
     shown = []
     for name, value in said:
         number, kind = FIELDS[message][name]
@@ -81,38 +75,68 @@ def says(message, said, reply):
         if place in SKIPPED or number not in GETLOG[reply].get(message, {number}):
             continue
         if place in OPAQUE and not (reply and place in AS_REPLY):
-            shown.append((number, f"{number}:;"))
+            shown.append((number, ":;"))
         elif kind in FIELDS:
-            shown.append((number, f"{number}{{{says(kind, value, reply)}}}"))
+            shown.append((number, says(kind, value, reply)))
         elif kind in ("bytes", "string"):
-            shown.append((number, f"{number}:{ast.literal_eval('b' + value).hex()};"))
+            shown.append((number, f":{ast.literal_eval('b' + value).hex()};"))
         elif kind == "float":
-            shown.append((number, f"{number}#{struct.pack('<f', float(value)).hex()};"))
+            shown.append((number, f"#{struct.pack('<f', float(value)).hex()};"))
         else:
             n = int(value == "true") if kind == "bool" else ENUMS[kind][value] if kind in ENUMS else int(value)
             if place in NAMED and n not in NAMED[place]:
                 raise Refused
-            shown.append((number, f"{number}={n};"))
-    return "".join(text for _, text in sorted(shown, key=lambda s: s[0]))
+            shown.append((number, f"={n};"))
+    return sorted(shown, key=lambda field: field[0])
+
+
+def line_of(shown):
+    return "".join(f"{number}{{{line_of(content)}}}" if isinstance(content, list) else f"{number}{content}" for number, content in shown)
+
+
+def merged(message, shown):
+    """What counts of the fields of several parts: the last value, and messages merged."""
+    kinds, joined = dict(FIELDS[message].values()), {}
+    for number, content in shown:
+        if (message, number) in REPEATED:
+            joined.setdefault(number, []).append((number, content))
+            continue
+        before = joined.get(number, [])
+        if before and (message, number) in ONCE:
+            raise Refused
+        joined[number] = [(number, merged(kinds[number], (before[0][1] if before else []) + content) if isinstance(content, list) else content)]
+    return [field for _, fields in sorted(joined.items()) for field in fields]
+
+
+def words_of(text):
+    return parsed(re.findall(r'"(?:[^"\\]|\\.)*"|[{}:]|[^\s{}:]+', text))
 
 
 def encoded(message, text):
-    subprocess.run([os.path.join(HERE, "need"), "protoc", "protobuf-compiler"], check=True)
-    return subprocess.run(["protoc", f"--proto_path={HERE}", f"--encode={message}", "kinetic.proto"],
-                          input=text.encode(), stdout=subprocess.PIPE, check=True).stdout
+    protobuf.installed()
+    return protobuf.protoc("encode", text.encode(), message, "kinetic.proto")
+
+
+def message_line(kind, parts, data):
+    """The line of a message in parts; what counts of it is held to what protoc reads in the whole."""
+    message, reply = INSIDE.get(kind, kind.replace("Reply", "")).split(".")[-1], kind.startswith("Reply")
+    try:
+        shown = [field for text in parts for field in says(message, words_of(text), reply)]
+        counted = merged(message, shown)
+    except Refused:
+        return "refused"
+    read = protobuf.protoc("decode", data, INSIDE.get(kind, kind.replace("Reply", "")), "kinetic.proto").decode()
+    assert counted == says(message, words_of(read), reply), (kind, counted, read)
+    return line_of(shown)
 
 
 def messages():
-    for part in re.split(r"^== ", open(os.path.join(HERE, "messages.txt")).read(), flags=re.M)[1:]:
-        head, text = part.split("\n", 1)
+    for section in re.split(r"^== ", open(os.path.join(HERE, "messages.txt")).read(), flags=re.M)[1:]:
+        head, text = section.split("\n", 1)
         name, kind = head.split()
-        message = kind.replace("Reply", "")
-        words = re.findall(r'"(?:[^"\\]|\\.)*"|[{}:]|[^\s{}:]+', text)
-        try:
-            line = says(message, parsed(words), kind.startswith("Reply"))
-        except Refused:
-            line = "refused"
-        yield name, kind, encoded(message, text), line
+        parts = re.split(r"^--$", text, flags=re.M)
+        data = b"".join(encoded(INSIDE.get(kind, kind.replace("Reply", "")), part) for part in parts)
+        yield name, kind, data, message_line(kind, parts, data)
 
 
 # Worked by hand: a kind, bytes, and the line.
@@ -155,8 +179,7 @@ RAW = [
     ("Setup", "0801" "f9ffffff0f01020304050607", "refused"),
     ("Setup", "0801" "faffffff0f030102", "refused"),
     ("Setup", "0801" "fdffffff0f010203", "refused"),
-    # a single field twice, another wire type
-    ("Setup", "08010801", "refused"),
+    # another wire type
     ("Setup", "0d01000000", "refused"),
     ("HmacAuth", "1001", "refused"),
     # int32: 2^31 - 1, -2^31, 2^31, 2^32 - 1, -2^31 - 1
@@ -185,18 +208,17 @@ RAW = [
     ("Command", "12" "0a" "3a06" "1204" "2202" "1800" "7801", "2{7{2{4{3=0;}}}}"),
     # a packed permission list
     ("Scope", "1a020001", "refused"),
-    # GetLog: types 1, 0 and 1 among unlisted fields of each wire type (2, 7, 9, 15, 15), none, twice; a type of 8, of -1; packed types, types as
+    # GetLog: types 1, 0 and 1 among unlisted fields of each wire type (2, 7, 9, 15, 15), none; a type of 8, of -1; packed types, types as
     # four and as eight bytes
     ("Body", "321d" "0801" "12020801" "0800" "3a0178" "4d01020304" "790102030405060708" "7801" "0801", "6{1=1;1=0;1=1;}"),
     ("Body", "3200", "6{}"),
-    ("Body", "3200" "3200", "refused"),
     ("Body", "3204" "0801" "0808", "refused"),
     ("Body", "320b" "08ffffffffffffffffff01", "refused"),
     ("Body", "3203" "0a0101", "refused"),
     ("Body", "3205" "0d01000000", "refused"),
     ("Body", "3209" "090100000000000000", "refused"),
     # a reply's GetLog: a temperature of 25.5, a NaN with its bits as they came, a utilisation with no value; a float as a number, as eight
-    # bytes, as bytes, cut, and twice; a name as a float
+    # bytes, as bytes, cut; a name as a float
     ("ReplyBody", "320c" "1a0a" "0a03484441" "150000cc41", "6{3{1:484441;2#0000cc41;}}"),
     ("ReplyBody", "3207" "1a05" "15010080ff", "6{3{2#010080ff;}}"),
     ("ReplyBody", "3207" "1205" "0a03484441", "6{2{1:484441;}}"),
@@ -204,8 +226,33 @@ RAW = [
     ("ReplyBody", "320b" "1a09" "110102030405060708", "refused"),
     ("ReplyBody", "3208" "1a06" "120401020304", "refused"),
     ("ReplyBody", "3206" "1a04" "15010203", "refused"),
-    ("ReplyBody", "320c" "1a0a" "1501020304" "1501020304", "refused"),
     ("ReplyBody", "3207" "1a05" "0d01020304", "refused"),
+    # a field twice, and one between that is not listed: each occurrence is read
+    ("Setup", "0801" "0802", "1=1;1=2;"),
+    ("Setup", "0801" "7801" "0800", "1=1;1=0;"),
+    ("HmacAuth", "120161" "1200", "2:61;2:;"),
+    ("Message", "3a0108" "3a0100" "32017a" "3200", "7:08;7:00;6:;6:;"),
+    ("Command", "0a021801" "7801" "0a022002", "1{3=1;}1{4=2;}"),
+    ("Body", "3200" "3200", "6{}6{}"),
+    ("Body", "32020801" "32020800", "6{1=1;}6{1=0;}"),
+    ("ReplyBody", "320c" "1a0a" "1501020304" "1505060708", "6{3{2#01020304;2#05060708;}}"),
+    # each occurrence must decode: a priority of 2 first and last, another wire type first, a cut header first, a header cut in two
+    ("Header", "6002" "6005", "refused"),
+    ("Header", "6005" "6002", "refused"),
+    ("Setup", "0d01000000" "0801", "refused"),
+    ("Command", "0a0118" "0a021801", "refused"),
+    ("Command", "0a0118" "0a0101", "refused"),
+    # Security twice, a field twice inside it; scopes and permissions may
+    ("Body", "3a00" "3a00", "refused"),
+    ("Body", "3a00" "1a00" "3a00", "refused"),
+    ("Acl", "0801" "0801", "refused"),
+    ("Acl", "120161" "120161", "refused"),
+    ("Acl", "1801" "1801", "refused"),
+    ("Scope", "0800" "0800", "refused"),
+    ("Scope", "1200" "1200", "refused"),
+    ("Scope", "2000" "2000", "refused"),
+    ("Acl", "2200" "22021800", "4{}4{3=0;}"),
+    ("Scope", "1800" "1800", "3=0;3=0;"),
 ]
 
 
@@ -244,7 +291,7 @@ def made():
             "writers_main/stdout": "".join(written())}
 
 
-FIELDS, ENUMS = proto()
+FIELDS, ENUMS = protobuf.proto()
 
 if __name__ == "__main__":
     if sys.argv[1:2] == ["--hex"]:

@@ -326,7 +326,6 @@ def newer_firmware(day, timers, tablet):
     tablet.look("GET", b"t1/082000")
     two.send("PUT t2/082000, an unknown field that is cut", two.framed(two.command("PUT", message((1, message((3, b"t2/082000")))), field(200, b"ab")[:-1])))
     two.send("PUT t2/082000 with a batchID", two.framed(two.command("PUT", message((1, message((3, b"t2/082000")))), extra_header=field(14, 3))))
-    two.send("PUT t2/082000, its key twice", two.framed(two.command("PUT", message((1, message((3, b"t2/082000"), (3, b"t2/082000")))))))
     two.send("messageType 28, PEER2PEERPUSH", two.framed(two.command(28)))
     two.send("a command of no bytes", two.framed(b""))
 
@@ -355,6 +354,30 @@ def the_log(day, office, timers, tablet):
     assert code_of(office.log(asked="no type").reply) == 16
     assert code_of(office.log(1, 8, asked="a type that has no name").reply) == 16
     tablet.look("GET", b"t1/080000", "t1/080000 beside the log")
+
+
+def edited(day, office, timers, tablet):
+    two = timers[1]
+    day.title("The library of a tablet repeats fields that were edited")
+    day.time = "08:40"
+
+    def sent(client, asked, command, value=b"", before=b""):
+        return code_of(client.send(asked, frame(before + signed(client.identity, client.key, command), value)).reply)
+
+    keys = message((1, message((3, b"t1/080000"), (3, b"t1/080030"))))
+    assert sent(tablet, "GET t1/080030, its key after t1/080000", tablet.command("GET", keys)) == 1
+    assert sent(tablet, "GET t1/080030, a header with sequence 0 before", field(1, message((4, 0), (7, 28))) + tablet.command("GET", keys)) == 1
+    draft = message((4, 2), (5, message((1, 99), (2, b"draft"))), (7, b"draft"))
+    assert sent(tablet, "GET t1/080030, a draft of the message before", tablet.command("GET", keys), before=draft) == 1
+    first, last = message((2, message((1, b"t1/"), (2, b"t1/"), (5, 0)))), message((2, message((2, b"t1/~"), (3, 1), (5, 2))))
+    assert sent(tablet, "GETKEYRANGE t1/ to t1/~, in two bodies", tablet.command("GETKEYRANGE", first, extra=field(2, last))) == 1
+    assert sent(tablet, "GET, no key after t1/080000", tablet.command("GET", message((1, message((3, b"t1/080000"), (3, b"")))))) == 16
+    assert sent(tablet, "GET t1/080030, priority 2 and then 5", tablet.command("GET", keys, extra_header=field(12, 2) + field(12, 5))) == 16
+    pair = message((1, message((2, b"1"), (3, b"t2/084000"))), (1, message((2, b"2"), (8, 1))))
+    assert sent(two, "PUT t2/084000, its keyValue in two", two.command("PUT", pair, extra=field(2, b"")), reading(14)) == 1
+    tablet.look("GET", b"t2/084000")
+    assert sent(office, "SECURITY, one in each of two bodies", office.command("SECURITY", table(), extra=field(2, table()))) == 16
+    assert code_of(two.look("DELETE", b"t2/084000", old=b"2").reply) == 1
 
 
 def limits(day, office, plain):
@@ -487,6 +510,7 @@ def made():
     wrong_signature(day, timers)
     newer_firmware(day, timers, tablet)
     the_log(day, office, timers, tablet)
+    edited(day, office, timers, tablet)
     limits(day, office, plain)
     cluster(day, office, timers)
     full(day, office, timers, tablet)

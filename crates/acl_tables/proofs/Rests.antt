@@ -11,7 +11,7 @@ use Rattle.tree.specs.Rules.{ruleOf}
 use Rattle.tree.specs.Tree.{Tree, subsAt}
 use Rattle.tree.specs.declared.Kind.{Kind}
 use Rattle.tree.specs.declared.Form.the-variants.{Nested}
-use Rattle.tree.specs.declared.Rule.the-variants.{Repeated}
+use Rattle.tree.specs.PutIn.{Has}
 use Rattle.access.specs.Table.{both, all, within}
 use Rattle.lookups.specs.Views.{bytesAt, treeOf}
 use Rattle.repeated_fields.specs.Values.{NextPartIs}
@@ -32,7 +32,7 @@ module _ {A : Type 0} (k : Kind) (num : ℕ) (f : Tree → A) (taken : A → Boo
     pub bytes : put out n (coming k num f s left) ≡ put first 0 whole
     pub few : n ≤ most
 
-  pub adding-start : (kp : Kind) (p : Part) → Stands kp s p → ruleOf kp num ≡ Repeated (Nested k) → whole ≡ mapL f (subsAt num (treeOf kp (bytesAt s p))) → Adding p first 0
+  pub adding-start : (kp : Kind) (p : Part) → Stands kp s p → Has (Nested k) (ruleOf kp num) → whole ≡ mapL f (subsAt num (treeOf kp (bytesAt s p))) → Adding p first 0
   adding-start kp p y q e =
       let g : coming k num f s p ≡ whole = sym (e ∙ whole-is k num f s kp p y q) in
       let c : length (coming k num f s p) ≡ length whole = ap length g in

@@ -23,7 +23,7 @@ use Rattle.requests.specs.declared.Body.{Body}
 use Rattle.request_parts.specs.Views.{keyValueView, rangeView}
 use Rattle.requests.specs.Views.{bodyView}
 use Rattle.scopes.specs.Stands.{aclsIn}
-use Rattle.log_types.specs.Types.{typesIn}
+use Rattle.merged_parts.specs.Types.{logTypes}
 use Rattle.sending.specs.declared.Address.{Address}
 use Rattle.sending.specs.Sent.{Sent, replied}
 use Rattle.sending.specs.SentLaws.{sent-as}
@@ -53,7 +53,7 @@ wholeView s b =
       keyValue = some (keyValueView s (b .entry));
       range = some (rangeView s (b .range));
       setup = some (numView (b .cluster));
-      getLog = some (typesIn s (b .log));
+      getLog = some (logTypes s);
       security = some (aclsIn s (b .security));
     }
 
@@ -83,6 +83,14 @@ module _ (s : List ℕ) (b : Body) (v : List ℕ) where
       go true e = e
       go false e = never e
 
+  -- and GETLOG: the getLog is there
+  pub log-there : fault GetLog (bodyView s b) v ≡ 0 → b .logged ≡ true
+  log-there e = go (b .logged) (beside (isEmpty v) (present typesGood (bodyView s b .getLog)) e)
+    where
+      go : (x : Bool) → present typesGood (guard x (logTypes s)) ≡ true → x ≡ true
+      go true e = refl
+      go false e = never e
+
   -- step 10 of a body that passes step 8
   step-whole : (t : State) (o : Operation) → fault o (bodyView s b) v ≡ 0 → step10 t o (bodyView s b) v ≡ step10 t o (wholeView s b) v
   step-whole t Noop e = refl
@@ -99,7 +107,7 @@ module _ (s : List ℕ) (b : Body) (v : List ℕ) where
   step-whole t Setup e =
       ap (setUp t) (there none isSome refl (b .changed) (numView (b .cluster)) (beside (isEmpty v) (isSome (bodyView s b .setup)) e))
   step-whole t GetLog e =
-      ap (logged t) (there [] (present typesGood) refl (b .log .has) (typesIn s (b .log)) (beside (isEmpty v) (present typesGood (bodyView s b .getLog)) e))
+      ap (logged t) (there [] (present typesGood) refl (b .logged) (logTypes s) (beside (isEmpty v) (present typesGood (bodyView s b .getLog)) e))
   step-whole t Security e =
       ap (secure t) (there [] (present securityGood) refl (b .security .has) (aclsIn s (b .security)) (tabled e))
 

@@ -75,7 +75,7 @@ pub fn perform(
         Operation::Put => put(out, by, a, store, s, b.entry, value),
         Operation::Delete => delete(out, by, a, store, s, b.entry),
         Operation::Setup => setup(out, by, a, device, b.cluster),
-        Operation::GetLog => get_log(out, by, a, store, readings, s, b.log),
+        Operation::GetLog => get_log(out, by, a, store, readings, s),
         Operation::Security => secure(out, by, a, device, s, b.security),
     }
 }

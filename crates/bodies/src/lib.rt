@@ -24,7 +24,10 @@ ghost use Rattle.body_rules.specs.Given.{securityFault};
 ghost use Rattle.request_parts.specs.Views.{KeyValueLies, RangeLies, keyValueView, rangeView};
 ghost use Rattle.requests.specs.Views.{BodyLies, bodyView};
 ghost use Rattle.scopes.specs.Stands.{StandsSecurity, aclsIn};
-ghost use Rattle.log_types.specs.Types.{StandsLog, typesIn};
+ghost use Rattle.merged_parts.specs.Types.{logTypes};
+ghost use Rattle.lookups.specs.Views.{Reads};
+ghost use Rattle.tree.specs.declared.Kind.the-variants.{Command};
+ghost use mathlib.Core.Bool.{true};
 
 // Whether the keyValue is there and its lengths are right.
 fn key_value_right(keyed: bool, k: KeyValue) -> bool
@@ -58,24 +61,23 @@ fn range_right(ranged: bool, g: Range) -> bool
 }
 
 // Whether the getLog is there with a type, and every type may be asked for.
-fn log_right(s: &[u8], p: Part) -> bool
-    requires { ⌜ StandsLog (now s) p ⌝ }
-    ensures { λ r. ⌜ r ≡ present typesGood (guard (p .has) (typesIn (now (s .entry)) p)) ⌝ }
+fn log_right(s: &[u8], logged: bool) -> bool
+    requires { ⌜ (logged ≡ true → Reads Command (now s)) ⌝ }
+    ensures { λ r. ⌜ r ≡ present typesGood (guard logged (logTypes (now (s .entry)))) ⌝ }
 {
-    let has = p.has;
-    if !has {
+    if !logged {
         return false;
     }
-    types_good(log_types(s, p))
+    types_good(log_types(s))
 }
 
 // What is wrong with the getLog where the operation uses it; else 0.
-fn log_code(o: Operation, s: &[u8], p: Part) -> u64
-    requires { ⌜ StandsLog (now s) p ⌝ }
-    ensures { λ r. ⌜ (o ≡ Operation.GetLog → r ≡ broken (present typesGood (guard (p .has) (typesIn (now (s .entry)) p)))) ⌝ }
+fn log_code(o: Operation, s: &[u8], logged: bool) -> u64
+    requires { ⌜ (logged ≡ true → Reads Command (now s)) ⌝ }
+    ensures { λ r. ⌜ (o ≡ Operation.GetLog → r ≡ broken (present typesGood (guard logged (logTypes (now (s .entry)))))) ⌝ }
 {
     match o {
-        Operation::GetLog => broken(log_right(s, p)),
+        Operation::GetLog => broken(log_right(s, logged)),
         _ => 0,
     }
 }
@@ -119,7 +121,7 @@ pub fn body_fault(o: Operation, s: &[u8], b: Body, value: usize) -> u64
     let change = broken(change_right(b.keyed, b.entry));
     let range = broken(range_right(b.ranged, b.range));
     let setup = broken(b.changed);
-    let log = log_code(o, s, b.log);
+    let log = log_code(o, s, b.logged);
     let security = security_code(o, s, b.security);
     fault(o, value, pair, change, range, setup, log, security)
 }

@@ -14,8 +14,6 @@ ghost use mathlib.Core.Bool.{true};
 ghost use mathlib.Core.Option.{Option, none};
 ghost use Prim.Native.Nat.{ℕ, _≤_};
 ghost use lib.ListN.{length};
-ghost use Rattle.tree.specs.Tree.{listed};
-ghost use Rattle.tree.specs.declared.Kind.the-variants.{Command};
 ghost use Rattle.wire.specs.Reader.{choose};
 ghost use Rattle.store.specs.Store.{Good};
 ghost use Rattle.readings.specs.Lent.{readingsGood};
@@ -25,7 +23,7 @@ ghost use Rattle.access.specs.Record.{tableOf, Placed};
 ghost use Rattle.lookups.specs.Views.{numView};
 ghost use Rattle.protocol.specs.State as state;
 ghost use Rattle.protocol.specs.State.{lent};
-ghost use Rattle.protocol.specs.Reading.{decoded};
+ghost use Rattle.protocol.specs.Reading.{decoded, decodes};
 ghost use Rattle.protocol.specs.Judge.{judge};
 ghost use Rattle.protocol.specs.Operation.{askedBy};
 ghost use Rattle.protocol.specs.Answer.{respond};
@@ -190,7 +188,7 @@ pub fn decide(
     by: &[u8],
 ) -> Replied
     requires { ⌜ (4096 ≤ length (now out)) × (length (now by) ≤ 64) × Good (now store) × (tableGood (tableOf (now device)) ≡ true) × (placeOf (tableOf (now device)) identity ≡ At place) × (readingsGood (now readings) ≡ true) ⌝ }
-    ensures { λ r. ⌜ Sent (respond box (lent (now (store .entry)) (now (device .entry)) (now (readings .entry)) (connectionOf connection)) (now (value .entry)) (decoded identity (now (by .entry)) (listed Command (now (s .entry))))) (r .written) (now (out .entry)) (now (out .exit)) (lent (now (store .exit)) (now (device .exit)) (now (readings .entry)) (connectionOf (r .connection))) ⌝ }
+    ensures { λ r. ⌜ Sent (respond box (lent (now (store .entry)) (now (device .entry)) (now (readings .entry)) (connectionOf connection)) (now (value .entry)) (decoded identity (now (by .entry)) (decodes (now (s .entry))))) (r .written) (now (out .entry)) (now (out .exit)) (lent (now (store .exit)) (now (device .exit)) (now (readings .entry)) (connectionOf (r .connection))) ⌝ }
 {
     let r = requests::read_request(s);
     let ok = r.ok;

@@ -22,7 +22,7 @@ use Rattle.encoding.specs.Encode.{tag, intField, lenField, fixField, enc
 use Rattle.encoding.specs.Depth.{depth, says-message, depth-most}
 use Rattle.tree.specs.declared.Kind.{Kind}
 use Rattle.tree.specs.declared.Rule.{Rule}
-use Rattle.tree.specs.declared.Rule.the-variants.{Unlisted, Refused, Single, Repeated}
+use Rattle.tree.specs.declared.Rule.the-variants.{Unlisted, Refused, Once, Single, Repeated}
 
 -- one field ---------------------------------------------------------------------------
 
@@ -70,7 +70,8 @@ says-rule : (r : Rule) (st : Bool) (n : ℕ) (v : Value) (c : Content) (acc : Li
     → byRule r st n v acc ≡ some (acc ++ (item n c ∷ []))
 says-rule Unlisted st n v c acc h = never (cc)
 says-rule Refused st n v c acc h = never (cc)
-says-rule (Single f) st n v c acc h = go (isSome (find n acc)) h
+says-rule (Single f) st n v c acc h = rw h
+says-rule (Once f) st n v c acc h = go (isSome (find n acc)) h
   where
     go : (s : Bool) → choose s none (decode f v) ≡ some c → choose s none (add n acc (decode f v)) ≡ some (acc ++ (item n c ∷ []))
     go true h = never (cc)

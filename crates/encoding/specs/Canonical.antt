@@ -17,23 +17,20 @@ use Rattle.wire.specs.WireLaws.{varint-below}
 use Rattle.wire.specs.Varint.{varintUp, varintBytes}
 use Rattle.wire.specs.VarintLaws.{varint-shortest}
 use Rattle.tree.specs.Rules.{namesOf, strictOf, ruleOf}
-use Rattle.tree.specs.Tree.{mapO, thenO, guard, isSome, among, isInt32, Content, cInt, cRaw, cFix, cMsg, Item, item, decode, find, add, byRule, step, items, itemsO, level}
+use Rattle.tree.specs.Tree.{mapO, guard, isSome, among, isInt32, Content, cInt, cRaw, cFix, cMsg, Item, item, decode, find, add, byRule, step, items, itemsO, level}
 use Rattle.tree.specs.Tree.{Tree, done, int, raw, fix, sub, openOne, openAll, listedIn, listed}
 use Rattle.encoding.specs.Basics.{never, guarded}
 use Rattle.encoding.specs.Encode.{tag, intField, head, lenField, fixField, encode, FieldNumber, says, FitsAfter, ends, ints, raws, fixs, subs, Fits}
 use Rattle.encoding.specs.Back.{Known, known-none, known-snoc, read-back}
 use Rattle.tree.specs.declared.Kind.{Kind}
+use Rattle.tree.specs.OptionLaws.{then-some}
 use Rattle.tree.specs.declared.Form.{Form}
 use Rattle.tree.specs.declared.Form.the-variants.{Int64, Int32, Named, Flag, Bytes, Opaque, Float, Nested}
 use Rattle.tree.specs.declared.Rule.{Rule}
-use Rattle.tree.specs.declared.Rule.the-variants.{Unlisted, Refused, Single, Repeated}
+use Rattle.tree.specs.declared.Rule.the-variants.{Unlisted, Refused, Once, Single, Repeated}
 
 none-some : {A B : Type 0} {a : A} → _≡_ {A = Option A} none (some a) → B
 none-some e = never (cc)
-
-then-some : {A B : Type 0} (o : Option A) (f : A → Option B) {b : B} → thenO o f ≡ some b → (a : A) × (o ≡ some a) × (f a ≡ some b)
-then-some none f e = none-some e
-then-some (some a) f e = (a, refl, e)
 
 map-some : {A B : Type 0} (f : A → B) (o : Option A) {b : B} → mapO f o ≡ some b → (a : A) × (o ≡ some a) × (f a ≡ b)
 map-some f none e = none-some e
@@ -310,9 +307,10 @@ step-cases : (r : Rule) (st : Bool) (n : ℕ) (v : Value) (acc : List Item) {out
 step-cases Unlisted true n v acc h e = none-some e
 step-cases Unlisted false n v acc h e = inl (cc)
 step-cases Refused st n v acc h e = none-some e
-step-cases (Single f) st n v acc {out} h e = go (isSome (find n acc)) e
+step-cases (Single f) st n v acc h e = inr (added f n v acc h e)
+step-cases (Once f) st n v acc {out} h e = go (isSome (find n acc)) e
   where
-    go : (s : Bool) → choose s none (add n acc (decode f v)) ≡ some out → Stepped (Single f) s n v acc out
+    go : (s : Bool) → choose s none (add n acc (decode f v)) ≡ some out → Stepped (Once f) s n v acc out
     go true e = none-some e
     go false e = inr (added f n v acc h e)
 step-cases (Repeated f) st n v acc h e = inr (added f n v acc h e)

@@ -18,7 +18,7 @@ use Rattle.tree.specs.declared.Kind.the-variants.{Message, HmacAuth, Command, H
 use Rattle.tree.specs.declared.Form.{Form}
 use Rattle.tree.specs.declared.Form.the-variants.{Int64, Int32, Named, Flag, Bytes, Opaque, Float, Nested}
 use Rattle.tree.specs.declared.Rule.{Rule}
-use Rattle.tree.specs.declared.Rule.the-variants.{Unlisted, Refused, Single, Repeated}
+use Rattle.tree.specs.declared.Rule.the-variants.{Unlisted, Refused, Once, Single, Repeated}
 
 abbrev pub depth : Kind → ℕ
 depth Message = 1
@@ -56,6 +56,7 @@ formBelow d (Nested k) = ltb (depth k) d
 abbrev ruleBelow : ℕ → Rule → Bool
 ruleBelow d Unlisted = true
 ruleBelow d Refused = true
+ruleBelow d (Once f) = formBelow d f
 ruleBelow d (Single f) = formBelow d f
 ruleBelow d (Repeated f) = formBelow d f
 
@@ -116,8 +117,9 @@ rule-below : (d : ℕ) (r : Rule) (s : Bool) (k : Kind) (b c : List ℕ) → rul
     → (depth k < d) × (c ≡ b)
 rule-below d Unlisted s k b c h g = never (cc)
 rule-below d Refused s k b c h g = never (cc)
-rule-below d (Single f) true k b c h g = never (cc)
-rule-below d (Single f) false k b c h g = form-below d f k b c h g
+rule-below d (Once f) true k b c h g = never (cc)
+rule-below d (Once f) false k b c h g = form-below d f k b c h g
+rule-below d (Single f) s k b c h g = form-below d f k b c h g
 rule-below d (Repeated f) s k b c h g = form-below d f k b c h g
 
 -- a message inside one of kind k

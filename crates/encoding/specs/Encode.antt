@@ -12,7 +12,7 @@ use Rattle.tree.specs.Rules.{ruleOf}
 use Rattle.tree.specs.Tree.{among, Content, cInt, cRaw, cFix, cMsg, decode, Tree, done, int, raw, fix, sub}
 use Rattle.tree.specs.declared.Kind.{Kind}
 use Rattle.tree.specs.declared.Rule.{Rule}
-use Rattle.tree.specs.declared.Rule.the-variants.{Unlisted, Refused, Single, Repeated}
+use Rattle.tree.specs.declared.Rule.the-variants.{Unlisted, Refused, Once, Single, Repeated}
 
 -- document 01: "field encoding is the public Protocol Buffers encoding"; "Replies": "shortest varints" ------------
 
@@ -96,7 +96,8 @@ pub record FieldNumber (n : ℕ) : Type 0 where
 abbrev pub says : Rule → Bool → Value → Option Content
 says Unlisted before v = none
 says Refused before v = none
-says (Single f) before v = choose before none (decode f v)
+says (Once f) before v = choose before none (decode f v)
+says (Single f) before v = decode f v
 says (Repeated f) before v = decode f v
 
 -- a tree that may follow fields of the numbers ns in a message of kind k

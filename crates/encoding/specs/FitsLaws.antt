@@ -17,7 +17,7 @@ use Rattle.encoding.specs.Encode.{encode, intO, intIf, rawIf, fixO, each
 use Rattle.encoding.specs.Cost.{cost, AtMost, CostMost, encode-cost}
 use Rattle.tree.specs.declared.Kind.{Kind}
 use Rattle.tree.specs.declared.Rule.{Rule}
-use Rattle.tree.specs.declared.Rule.the-variants.{Unlisted, Refused, Single, Repeated}
+use Rattle.tree.specs.declared.Rule.the-variants.{Unlisted, Refused, Once, Single, Repeated}
 
 -- a field number, by a computed test
 pub number : {n : ℕ} → choose (leb 1 n) (ltb n (2 ^ 29)) false ≡ true → FieldNumber n
@@ -35,8 +35,9 @@ record Fewer (ns ms : List ℕ) : Type 0 where
 says-fewer : (r : Rule) (s s' : Bool) (v : Value) (c : Content) → (s ≡ false → s' ≡ false) → says r s v ≡ some c → says r s' v ≡ some c
 says-fewer Unlisted s s' v c f h = h
 says-fewer Refused s s' v c f h = h
-says-fewer (Single g) true s' v c f h = never (cc)
-says-fewer (Single g) false s' v c f h = rw (f refl) h
+says-fewer (Once g) true s' v c f h = never (cc)
+says-fewer (Once g) false s' v c f h = rw (f refl) h
+says-fewer (Single g) s s' v c f h = h
 says-fewer (Repeated g) s s' v c f h = h
 
 fewer-cons : {ns ms : List ℕ} (n : ℕ) → Fewer ns ms → Fewer (n ∷ ns) (n ∷ ms)

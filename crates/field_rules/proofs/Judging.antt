@@ -13,13 +13,15 @@ use Rattle.wire.specs.Wire.{field}
 use Rattle.wire_fields.specs.FieldAnswer.{endsFound, numberIn, valueIn}
 use Rattle.wire_fields.specs.declared.Found.{Found}
 use Rattle.tree.specs.Rules.{Table, end, row, look, tableOf, ruleOf, strictOf}
-use Rattle.tree.specs.Tree.{isSome, Content, Item, item, decode, find, add, byRule, step}
-use Rattle.field_rules.specs.Judged.{bit, isSingle, listedBy, Marks, unlistedOf, fieldIn, Takes, Judges}
+use Rattle.tree.specs.Tree.{isSome, Content, Item, item, decode, find, add, byRule, step, later}
+use Rattle.field_rules.specs.Judged.{bit, withAgain, withMark, isSingle, listedBy, Marks, unlistedOf, fieldIn, Takes, Judges}
+use Rattle.tree.specs.OptionLaws.{none-of}
+use Rattle.field_rules.specs.SoleLaws.{find-last, sole-snoc}
 use Rattle.tree.specs.declared.Kind.{Kind}
 use Rattle.tree.specs.declared.Kind.the-variants.{Message, HmacAuth, Command, Header, Body, KeyValue, Range, Setup, GetLog, Security, Acl, Scope, ReplyCommand, ReplyBody, ReplyRange, ReplyGetLog, Utilization, Temperature, Capacity, Limits, Status}
 use Rattle.tree.specs.declared.Form.{Form}
 use Rattle.tree.specs.declared.Rule.{Rule}
-use Rattle.tree.specs.declared.Rule.the-variants.{Unlisted, Refused, Single, Repeated}
+use Rattle.tree.specs.declared.Rule.the-variants.{Unlisted, Refused, Once, Single, Repeated}
 use Rattle.field_values.specs.Taken.{meansTaken, insideTaken}
 use Rattle.field_values.specs.declared.Taken.{Taken}
 use Rattle.field_rules.specs.declared.Listed.{Listed}
@@ -32,6 +34,30 @@ use Rattle.field_rules.proofs.Bits.{set-bit, bits-below}
 allBelow : Table → Bool
 allBelow end = true
 allBelow (row m r t) = choose (ltb m 16) (allBelow t) false
+
+-- no field has the number 0
+none-zero : (k : Kind) → ruleOf k 0 ≡ Unlisted
+none-zero Message = refl
+none-zero HmacAuth = refl
+none-zero Command = refl
+none-zero Header = refl
+none-zero Body = refl
+none-zero KeyValue = refl
+none-zero Range = refl
+none-zero Setup = refl
+none-zero GetLog = refl
+none-zero Security = refl
+none-zero Acl = refl
+none-zero Scope = refl
+none-zero ReplyCommand = refl
+none-zero ReplyBody = refl
+none-zero ReplyRange = refl
+none-zero ReplyGetLog = refl
+none-zero Utilization = refl
+none-zero Temperature = refl
+none-zero Capacity = refl
+none-zero Limits = refl
+none-zero Status = refl
 
 all-below : (k : Kind) → allBelow (tableOf k) ≡ true
 unfolding allBelow
@@ -83,47 +109,79 @@ marked-below k n r p w = below-16 k n (λ e. let q : isSingle r ≡ false = ap i
 single-below : (k : Kind) (n : ℕ) {r : Rule} {f : Form} → r ≡ ruleOf k n → r ≡ Single f → n < 16
 single-below k n p q = below-16 k n (λ e. let z : _≡_ {A = ℕ} 0 1 = cc (p, q, e) in omega arith)
 
+once-below : (k : Kind) (n : ℕ) {r : Rule} {f : Form} → r ≡ ruleOf k n → r ≡ Once f → n < 16
+once-below k n p q = below-16 k n (λ e. let z : _≡_ {A = ℕ} 0 1 = cc (p, q, e) in omega arith)
+
 repeated-below : (k : Kind) (n : ℕ) {r : Rule} {f : Form} → r ≡ ruleOf k n → r ≡ Repeated f → n < 16
 repeated-below k n p q = below-16 k n (λ e. let z : _≡_ {A = ℕ} 0 1 = cc (p, q, e) in omega arith)
 
 -- one item more -------------------------------------------------------------------------
-abbrev pub orElse : {A : Type 0} → Option A → Option A → Option A
-orElse none b = b
-orElse (some a) b = some a
-
-pub find-last : (m n : ℕ) (c : Content) (is : List Item) → find m (is ++ (item n c ∷ [])) ≡ orElse (find m is) (choose (eqb m n) (some c) none)
-find-last m n c [] = refl
-find-last m n c (item j d ∷ is) = go (eqb m j) (find-last m n c is)
-  where
-    go : (t : Bool) → find m (is ++ (item n c ∷ [])) ≡ orElse (find m is) (choose (eqb m n) (some c) none)
-        → choose t (some d) (find m (is ++ (item n c ∷ []))) ≡ orElse (choose t (some d) (find m is)) (choose (eqb m n) (some c) none)
-    go true e = refl
-    go false e = e
-
 has-last : (m n : ℕ) (c : Content) (is : List Item) → isSome (find m (is ++ (item n c ∷ []))) ≡ choose (eqb m n) true (isSome (find m is))
 has-last m n c is = ap isSome (find-last m n c is) ∙ go (eqb m n) (find m is)
   where
-    go : (t : Bool) (o : Option Content) → isSome (orElse o (choose t (some c) none)) ≡ choose t true (isSome o)
+    go : (t : Bool) (o : Option Content) → isSome (later o (choose t (some c) none)) ≡ choose t true (isSome o)
     go true none = refl
     go true (some d) = refl
     go false none = refl
     go false (some d) = refl
 
-none-of : {A : Type 0} (o : Option A) → isSome o ≡ false → o ≡ none
-none-of none e = refl
-none-of (some a) e = let z : _≡_ {A = ℕ} 0 1 = cc in absurd (omega arith)
+-- number 0 is not singular
+not-zero : (k : Kind) (m : ℕ) → isSingle (ruleOf k m) ≡ true → m ≡ 0 → ⊥
+not-zero k m w e = let q : isSingle (ruleOf k m) ≡ false = ap (λ j. isSingle (ruleOf k j)) e ∙ ap isSingle (none-zero k) in let z : _≡_ {A = ℕ} 0 1 = cc (q, w) in omega arith
 
-marks-single : (k : Kind) (seen n : ℕ) (is : List Item) → Marks k seen is → n < 16 → bit seen n ≡ false → (c : Content) → Marks k (seen + 2 ^ n) (is ++ (item n c ∷ []))
-marks-single k seen n is h l z c =
-    record { small = bits-below 16 n seen l (h .small) z; marks = λ m w. set-bit n m seen z ∙ ap (choose (eqb m n) true) (h .marks m w) ∙ sym (has-last m n c is) }
+marks-single : (k : Kind) (seen n : ℕ) (is : List Item) → Marks k seen is → n < 16 → isSingle (ruleOf k n) ≡ true → bit seen n ≡ false → (c : Content) → Marks k (seen + 2 ^ n) (is ++ (item n c ∷ []))
+marks-single k seen n is h l y z c =
+    record {
+      small = bits-below 16 n seen l (h .small) z;
+      marks = λ m w. set-bit n m seen z ∙ ap (choose (eqb m n) true) (h .marks m w) ∙ sym (has-last m n c is);
+      alone = λ e m w. sole-snoc m n c is (λ q. ap (λ j. find j is) (eqb-true m n q) ∙ none-of (find n is) (sym (h .marks n y) ∙ z)) (h .alone (before e) m w);
+    }
+  where
+    before : bit (seen + 2 ^ n) 0 ≡ false → bit seen 0 ≡ false
+    before e = sym (set-bit n 0 seen z ∙ ap (λ t. choose t true (bit seen 0)) (ne-eqb 0 n (λ q. not-zero k n y (sym q)))) ∙ e
+
+-- a mark that is there stays, and bit 0 is set
+marks-kept : (k : Kind) (seen n : ℕ) (is : List Item) → Marks k seen is → isSingle (ruleOf k n) ≡ true → bit seen n ≡ true → (c : Content)
+    → (m : ℕ) → isSingle (ruleOf k m) ≡ true → bit seen m ≡ isSome (find m (is ++ (item n c ∷ [])))
+marks-kept k seen n is h y z c m w = h .marks m w ∙ other (eqb m n) refl ∙ sym (has-last m n c is)
+  where
+    other : (t : Bool) → eqb m n ≡ t → isSome (find m is) ≡ choose (eqb m n) true (isSome (find m is))
+    other true e = sym (h .marks m w) ∙ ap (bit seen) (eqb-true m n e) ∙ z ∙ sym (ap (λ t. choose t true (isSome (find m is))) e)
+    other false e = rw e
+
+absurd-true : {A : Type 0} {b : Bool} → b ≡ true → b ≡ false → A
+absurd-true p q = let z : _≡_ {A = ℕ} 0 1 = cc (p, q) in absurd (omega arith)
+
+marks-again : (k : Kind) (seen n : ℕ) (is : List Item) → Marks k seen is → isSingle (ruleOf k n) ≡ true → bit seen n ≡ true → (c : Content) → Marks k (withAgain seen) (is ++ (item n c ∷ []))
+marks-again k seen n is h y z c = go (bit seen 0) refl
+  where
+    go : (b : Bool) → bit seen 0 ≡ b → Marks k (choose b seen (seen + 2 ^ 0)) (is ++ (item n c ∷ []))
+    go true e = record { small = h .small; marks = marks-kept k seen n is h y z c; alone = λ q m w. absurd-true e q }
+    go false e = record {
+      small = bits-below 16 0 seen (omega arith) (h .small) e;
+      marks = λ m w. set-bit 0 m seen e ∙ ap (λ t. choose t true (bit seen m)) (ne-eqb m 0 (not-zero k m w)) ∙ marks-kept k seen n is h y z c m w;
+      alone = λ q m w. absurd-true (set-bit 0 0 seen e) q;
+    }
+
+marks-with : (k : Kind) (seen n : ℕ) (is : List Item) → Marks k seen is → n < 16 → isSingle (ruleOf k n) ≡ true → (c : Content) → Marks k (withMark seen n) (is ++ (item n c ∷ []))
+marks-with k seen n is h l y c = go (bit seen n) refl
+  where
+    go : (b : Bool) → bit seen n ≡ b → Marks k (choose b (withAgain seen) (seen + 2 ^ n)) (is ++ (item n c ∷ []))
+    go true e = marks-again k seen n is h y e c
+    go false e = marks-single k seen n is h l y e c
 
 marks-repeated : (k : Kind) (seen n : ℕ) (is : List Item) → Marks k seen is → isSingle (ruleOf k n) ≡ false → (c : Content) → Marks k seen (is ++ (item n c ∷ []))
-marks-repeated k seen n is h z c = record { small = h .small; marks = λ m w. h .marks m w ∙ other m w (eqb m n) refl ∙ sym (has-last m n c is) }
+marks-repeated k seen n is h z c = record {
+  small = h .small;
+  marks = λ m w. h .marks m w ∙ other m w (eqb m n) refl ∙ sym (has-last m n c is);
+  alone = λ e m w. sole-snoc m n c is (λ q. apart m w q) (h .alone e m w);
+}
   where
+    apart : {A : Type 0} (m : ℕ) → isSingle (ruleOf k m) ≡ true → eqb m n ≡ true → A
+    apart m w e = absurd-true w (ap (λ j. isSingle (ruleOf k j)) (eqb-true m n e) ∙ z)
+
     other : (m : ℕ) → isSingle (ruleOf k m) ≡ true → (t : Bool) → eqb m n ≡ t → isSome (find m is) ≡ choose (eqb m n) true (isSome (find m is))
-    other m w true e =
-        let p : isSingle (ruleOf k m) ≡ false = ap (λ j. isSingle (ruleOf k j)) (eqb-true m n e) ∙ z in
-        let z : _≡_ {A = ℕ} 0 1 = cc in absurd (omega arith)
+    other m w true e = apart m w e
     other m w false e = rw e
 
 -- what is listed, back to the rule --------------------------------------------------------
@@ -133,34 +191,37 @@ never z = absurd (omega arith)
 listed-not : (ρ : Rule) (seen n : ℕ) → listedBy ρ seen n ≡ Not → ρ ≡ Unlisted
 listed-not Unlisted seen n e = refl
 listed-not Refused seen n e = never (cc)
-listed-not (Single g) seen n e = go (bit seen n) e
+listed-not (Once g) seen n e = go (bit seen n) e
   where
-    go : (b : Bool) → choose b Never (As g (seen + 2 ^ n)) ≡ Not → Single g ≡ Unlisted
+    go : (b : Bool) → choose b Never (As g (withMark seen n)) ≡ Not → Once g ≡ Unlisted
     go true e = never (cc)
     go false e = never (cc)
+listed-not (Single g) seen n e = never (cc)
 listed-not (Repeated g) seen n e = never (cc)
 
-listed-never : (ρ : Rule) (seen n : ℕ) → listedBy ρ seen n ≡ Never → (ρ ≡ Refused) ⊎ ((g : Form) × (ρ ≡ Single g) × (bit seen n ≡ true))
+listed-never : (ρ : Rule) (seen n : ℕ) → listedBy ρ seen n ≡ Never → (ρ ≡ Refused) ⊎ ((g : Form) × (ρ ≡ Once g) × (bit seen n ≡ true))
 listed-never Unlisted seen n e = never (cc)
 listed-never Refused seen n e = inl refl
-listed-never (Single g) seen n e = inr (g, refl, go (bit seen n) e)
+listed-never (Once g) seen n e = inr (g, refl, go (bit seen n) e)
   where
-    go : (b : Bool) → choose b Never (As g (seen + 2 ^ n)) ≡ Never → b ≡ true
+    go : (b : Bool) → choose b Never (As g (withMark seen n)) ≡ Never → b ≡ true
     go true e = refl
     go false e = never (cc)
+listed-never (Single g) seen n e = never (cc)
 listed-never (Repeated g) seen n e = never (cc)
 
 listed-as : (ρ : Rule) (seen n : ℕ) (h : Form) (next : ℕ) → listedBy ρ seen n ≡ As h next
-    → ((ρ ≡ Single h) × (bit seen n ≡ false) × (next ≡ seen + 2 ^ n)) ⊎ ((ρ ≡ Repeated h) × (next ≡ seen))
+    → ((ρ ≡ Once h) × (bit seen n ≡ false) × (next ≡ withMark seen n)) ⊎ (((ρ ≡ Single h) × (next ≡ withMark seen n)) ⊎ ((ρ ≡ Repeated h) × (next ≡ seen)))
 listed-as Unlisted seen n h next e = never (cc)
 listed-as Refused seen n h next e = never (cc)
-listed-as (Single g) seen n h next e = go (bit seen n) refl e
+listed-as (Once g) seen n h next e = go (bit seen n) refl e
   where
-    go : (b : Bool) → bit seen n ≡ b → choose b Never (As g (seen + 2 ^ n)) ≡ As h next
-        → ((Single g ≡ Single h) × (bit seen n ≡ false) × (next ≡ seen + 2 ^ n)) ⊎ ((Single g ≡ Repeated h) × (next ≡ seen))
+    go : (b : Bool) → bit seen n ≡ b → choose b Never (As g (withMark seen n)) ≡ As h next
+        → ((Once g ≡ Once h) × (bit seen n ≡ false) × (next ≡ withMark seen n)) ⊎ (((Once g ≡ Single h) × (next ≡ withMark seen n)) ⊎ ((Once g ≡ Repeated h) × (next ≡ seen)))
     go true q e = never (cc)
-    go false q e = let a : g ≡ h = cc in inl (ap Single a, q, cc)
-listed-as (Repeated g) seen n h next e = let a : g ≡ h = cc in inr (ap Repeated a, cc)
+    go false q e = let a : g ≡ h = cc in inl (ap Once a, q, cc)
+listed-as (Single g) seen n h next e = let a : g ≡ h = cc in inr (inl (ap Single a, cc))
+listed-as (Repeated g) seen n h next e = let a : g ≡ h = cc in inr (inr (ap Repeated a, cc))
 
 -- a field by its rule -------------------------------------------------------------------
 module _ (k : Kind) (f : Found) (n : ℕ) (q : n ≡ numberIn f) (ρ : Rule) (p : ρ ≡ ruleOf k n) where
@@ -178,27 +239,37 @@ module _ (k : Kind) (f : Found) (n : ℕ) (q : n ≡ numberIn f) (ρ : Rule) (p 
   judges-refused : ρ ≡ Refused → (s : List ℕ) (is : List Item) → Judges s k is f Refuse
   judges-refused e s is = as-rule s is Refused e refl
 
-  module _ (g : Form) (e : ρ ≡ Single g) where
+  module _ (g : Form) (e : ρ ≡ Once g) where
     single : isSingle (ruleOf k n) ≡ true
     single = ap isSingle (sym p ∙ e)
 
     judges-twice : (seen : ℕ) (b : Bool) → b ≡ bit seen n → b ≡ true → (s : List ℕ) (is : List Item) → Marks k seen is → Judges s k is f Refuse
     judges-twice seen b w y s is m =
-        as-rule s is (Single g) e (ap (λ t. choose t none (add n is (decode g (valueIn s f)))) (sym (m .marks n single) ∙ sym w ∙ y))
+        as-rule s is (Once g) e (ap (λ t. choose t none (add n is (decode g (valueIn s f)))) (sym (m .marks n single) ∙ sym w ∙ y))
 
-    judges-single : (seen next : ℕ) (b : Bool) (w : Taken) → b ≡ bit seen n → b ≡ false → next ≡ seen + 2 ^ n
+    judges-once : (seen next : ℕ) (b : Bool) (w : Taken) → b ≡ bit seen n → b ≡ false → next ≡ withMark seen n
         → ((s : List ℕ) → meansTaken s w ≡ decode g (valueIn s f)) → ((s : List ℕ) (at : ℕ) → endsFound s at f → insideTaken s w)
         → (s : List ℕ) (at : ℕ) (is : List Item) → endsFound s at f → Marks k seen is → Takes s k is f n next w
-    judges-single seen next b w v y x d i s at is j m =
+    judges-once seen next b w v y x d i s at is j m =
         let z : bit seen n ≡ false = sym v ∙ y in
         let o : find n is ≡ none = none-of (find n is) (sym (m .marks n single) ∙ z) in
         record {
-          below = single-below k n p e;
-          adds = as-rule s is (Single g) e (ap (λ t. choose (isSome t) none (add n is (decode g (valueIn s f)))) o ∙ ap (add n is) (sym (d s)));
+          below = once-below k n p e;
+          adds = as-rule s is (Once g) e (ap (λ t. choose (isSome t) none (add n is (decode g (valueIn s f)))) o ∙ ap (add n is) (sym (d s)));
           inside = i s at j;
-          marked = λ c. subst (λ (x : ℕ). Marks k x (is ++ (item n c ∷ []))) (sym x) (marks-single k seen n is m (single-below k n p e) z c);
-          fresh = λ u. o;
+          marked = λ c. subst (λ (x : ℕ). Marks k x (is ++ (item n c ∷ []))) (sym x) (marks-with k seen n is m (once-below k n p e) single c);
         }
+
+  judges-single : (g : Form) → ρ ≡ Single g → (seen : ℕ) (w : Taken)
+      → ((s : List ℕ) → meansTaken s w ≡ decode g (valueIn s f)) → ((s : List ℕ) (at : ℕ) → endsFound s at f → insideTaken s w)
+      → (s : List ℕ) (at : ℕ) (is : List Item) → endsFound s at f → Marks k seen is → Takes s k is f n (withMark seen n) w
+  judges-single g e seen w d i s at is j m =
+      record {
+        below = single-below k n p e;
+        adds = as-rule s is (Single g) e (ap (add n is) (sym (d s)));
+        inside = i s at j;
+        marked = λ c. marks-with k seen n is m (single-below k n p e) (ap isSingle (sym p ∙ e)) c;
+      }
 
   judges-repeated : (g : Form) → ρ ≡ Repeated g → (seen : ℕ) (w : Taken)
       → ((s : List ℕ) → meansTaken s w ≡ decode g (valueIn s f)) → ((s : List ℕ) (at : ℕ) → endsFound s at f → insideTaken s w)
@@ -210,7 +281,6 @@ module _ (k : Kind) (f : Found) (n : ℕ) (q : n ≡ numberIn f) (ρ : Rule) (p 
         adds = as-rule s is (Repeated g) e (ap (add n is) (sym (d s)));
         inside = i s at j;
         marked = λ c. marks-repeated k seen n is m z c;
-        fresh = λ u. let z : _≡_ {A = ℕ} 0 1 = cc (u, z) in absurd (omega arith);
       }
 
   -- by what is listed
@@ -226,5 +296,6 @@ module _ (k : Kind) (f : Found) (n : ℕ) (q : n ≡ numberIn f) (ρ : Rule) (p 
         → ((s : List ℕ) → meansTaken s w ≡ decode g (valueIn s f)) → ((s : List ℕ) (at : ℕ) → endsFound s at f → insideTaken s w)
         → (s : List ℕ) (at : ℕ) (is : List Item) → endsFound s at f → Marks k seen is → Takes s k is f n next w
     judges-as g next w e d i s at is j m =
-        ⊎-elim (λ z. judges-single g (z .0) seen next false w (sym (z .1)) refl (z .2) d i s at is j m)
-        (λ z. subst (λ (x : ℕ). Takes s k is f n x w) (sym (z .1)) (judges-repeated g (z .0) seen w d i s at is j m)) (listed-as ρ seen n g next (sym t ∙ e))
+        ⊎-elim (λ z. judges-once g (z .0) seen next false w (sym (z .1)) refl (z .2) d i s at is j m)
+        (λ y. ⊎-elim (λ z. subst (λ (x : ℕ). Takes s k is f n x w) (sym (z .1)) (judges-single g (z .0) seen w d i s at is j m))
+        (λ z. subst (λ (x : ℕ). Takes s k is f n x w) (sym (z .1)) (judges-repeated g (z .0) seen w d i s at is j m)) y) (listed-as ρ seen n g next (sym t ∙ e))

@@ -13,7 +13,7 @@ use Rattle.tree.specs.Rules.{strictOf, ruleOf}
 use Rattle.tree.specs.Tree.{isSome, Content, Item, item, find, add, step}
 use Rattle.tree.specs.declared.Kind.{Kind}
 use Rattle.tree.specs.declared.Rule.{Rule}
-use Rattle.tree.specs.declared.Rule.the-variants.{Unlisted, Refused, Single, Repeated}
+use Rattle.tree.specs.declared.Rule.the-variants.{Unlisted, Refused, Once, Single, Repeated}
 use Rattle.field_values.specs.Taken.{meansTaken, insideTaken}
 use Rattle.field_values.specs.declared.Taken.{Taken}
 use Rattle.field_rules.specs.declared.Listed.{Listed}
@@ -28,19 +28,35 @@ bit x n = eqb (x / 2 ^ n % 2) 1
 abbrev pub isSingle : Rule → Bool
 isSingle Unlisted = false
 isSingle Refused = false
+isSingle (Once f) = true
 isSingle (Single f) = true
 isSingle (Repeated f) = false
 
--- the singular numbers that have come are the bits of a word
+-- bit 0, which is no field's number: a singular number has come again
+abbrev pub withAgain : ℕ → ℕ
+withAgain seen = choose (bit seen 0) seen (seen + 2 ^ 0)
+
+-- a mark, which may be there already
+abbrev pub withMark : ℕ → ℕ → ℕ
+withMark seen n = choose (bit seen n) (withAgain seen) (seen + 2 ^ n)
+
+-- a number occurs at most once
+abbrev pub Sole : ℕ → List Item → Type 0
+Sole n [] = Unit {0}
+Sole n (item m c ∷ is) = (eqb n m ≡ true → find n is ≡ none) × Sole n is
+
+-- the singular numbers that have come are the bits of a word; where none has come again, each occurs at most once
 pub record Marks (k : Kind) (seen : ℕ) (is : List Item) : Type 0 where
   pub small : seen < 65536
   pub marks : (n : ℕ) → isSingle (ruleOf k n) ≡ true → bit seen n ≡ isSome (find n is)
+  pub alone : bit seen 0 ≡ false → (n : ℕ) → isSingle (ruleOf k n) ≡ true → Sole n is
 
--- what a rule says of the number n, after the marks; "a singular listed field twice in one message [is] refused"
+-- what a rule says of the number n, after the marks; document 02, CR 5: "Security sent twice, a second singular field inside it … stay refused"
 abbrev pub listedBy : Rule → ℕ → ℕ → Listed
 listedBy Unlisted seen n = Not
 listedBy Refused seen n = Never
-listedBy (Single f) seen n = choose (bit seen n) Never (As f (seen + 2 ^ n))
+listedBy (Once f) seen n = choose (bit seen n) Never (As f (withMark seen n))
+listedBy (Single f) seen n = As f (withMark seen n)
 listedBy (Repeated f) seen n = As f seen
 
 abbrev pub unlistedOf : Kind → Judged
@@ -55,7 +71,6 @@ pub record Takes (s : List ℕ) (k : Kind) (is : List Item) (f : Found) (n seen 
   pub adds : step k (fieldIn s f) is ≡ add n is (meansTaken s w)
   pub inside : insideTaken s w
   pub marked : (c : Content) → Marks k seen (is ++ (item n c ∷ []))
-  pub fresh : isSingle (ruleOf k n) ≡ true → find n is ≡ none
 
 abbrev pub Judges : List ℕ → Kind → List Item → Found → Judged → Type 0
 Judges s k is f Refuse = step k (fieldIn s f) is ≡ none

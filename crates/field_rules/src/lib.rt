@@ -5,7 +5,7 @@ ghost use Prim.Native.Nat.{ℕ, _+_, _^_, _<_};
 ghost use Rattle.wire_fields.specs.FieldAnswer.{endsFound};
 ghost use Rattle.tree.specs.Tree.{Item};
 ghost use mathlib.Core.Bool.{true};
-ghost use Rattle.field_rules.specs.Judged.{bit, isSingle, listedBy, unlistedOf, Marks, Judges};
+ghost use Rattle.field_rules.specs.Judged.{bit, withAgain, withMark, isSingle, listedBy, unlistedOf, Marks, Judges};
 use field_values::Taken;
 use field_values::take_value;
 use table::rule_of;
@@ -49,6 +49,28 @@ fn mark(seen: u64, n: u64) -> u64
     seen + (1 << n)
 }
 
+// The marks with bit 0: a singular number has come again.
+fn with_again(seen: u64) -> u64
+    requires { ⌜ seen < 65536 ⌝ }
+    ensures { λ r. ⌜ r ≡ withAgain seen ⌝ }
+{
+    if marked(seen, 0) {
+        return seen;
+    }
+    mark(seen, 0)
+}
+
+// The marks with that of number n, which may be there already.
+fn with_mark(seen: u64, n: u64) -> u64
+    requires { ⌜ (n < 16) × (seen < 65536) ⌝ }
+    ensures { λ r. ⌜ r ≡ withMark seen n ⌝ }
+{
+    if marked(seen, n) {
+        return with_again(seen);
+    }
+    mark(seen, n)
+}
+
 fn unlisted(kind: Kind) -> Judged
     ensures { λ r. ⌜ r ≡ unlistedOf kind ⌝ }
 {
@@ -66,15 +88,19 @@ fn by_rule(r: Rule, seen: u64, n: u64) -> Listed
     match r {
         Rule::Unlisted => Listed::Not,
         Rule::Refused => Listed::Never,
-        Rule::Single(form) => {
+        Rule::Once(form) => {
             if marked(seen, n) {
                 return Listed::Never;
             }
             Listed::As {
                 form,
-                seen: mark(seen, n),
+                seen: with_mark(seen, n),
             }
         }
+        Rule::Single(form) => Listed::As {
+            form,
+            seen: with_mark(seen, n),
+        },
         Rule::Repeated(form) => Listed::As { form, seen },
     }
 }

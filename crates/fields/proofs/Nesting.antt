@@ -19,8 +19,9 @@ use Rattle.field_values.specs.Taken.{meansTaken, insideTaken}
 use Rattle.field_rules.specs.Judged.{Marks, Takes, Judges}
 use Rattle.fields.specs.Nested.{opensTaken}
 use Rattle.tree.specs.declared.Kind.{Kind}
+use Rattle.tree.specs.OptionLaws.{none-of}
 use Rattle.tree.specs.declared.Rule.{Rule}
-use Rattle.tree.specs.declared.Rule.the-variants.{Unlisted, Refused, Single, Repeated}
+use Rattle.tree.specs.declared.Rule.the-variants.{Unlisted, Refused, Once, Single, Repeated}
 use Rattle.field_values.specs.declared.Taken.{Taken}
 use Rattle.field_values.specs.declared.Taken.the-variants.{Number, Slice, Fixed, Inside, Wrong}
 use Rattle.field_rules.specs.declared.Judged.{Judged}
@@ -100,7 +101,8 @@ shut-add n (some c) h = shut-snoc (item n c) h
 shut-rule : (r : Rule) (st : Bool) (n : ℕ) (v : Value) (is : List Item) → Shut is → ShutO (byRule r st n v is)
 shut-rule Unlisted st n v is h = shut-choose st (some is) h
 shut-rule Refused st n v is h = tt
-shut-rule (Single f) st n v is h = shut-choose (isSome (find n is)) (add n is (decode f v)) (shut-add n (decode f v) h)
+shut-rule (Single f) st n v is h = shut-add n (decode f v) h
+shut-rule (Once f) st n v is h = shut-choose (isSome (find n is)) (add n is (decode f v)) (shut-add n (decode f v) h)
 shut-rule (Repeated f) st n v is h = shut-add n (decode f v) h
 
 shut-step : (k : Kind) (f : Field) (is : List Item) → Shut is → ShutO (step k f is)
@@ -139,10 +141,6 @@ reading-end k s seen at g l =
 
 refuses : (k : Kind) (s : List ℕ) → level k s ≡ none → false ≡ isSome (listed k s)
 refuses k s e = sym (ap isSome (shut-level k s none e tt))
-
-none-of : {A : Type 0} (o : Option A) → isSome o ≡ false → o ≡ none
-none-of none e = refl
-none-of (some a) e = let z : _≡_ {A = ℕ} 0 1 = cc in absurd (omega arith)
 
 module _ (k : Kind) (s : List ℕ) (seen at : ℕ) (g : Reading k s seen at) (l : at < length s) (f : Found) (m : meansFound s f ≡ readField (drop at s)) (e : endsFound s at f)
     (next : ℕ) (p : next ≡ nextIn f) where

@@ -14,11 +14,12 @@ use Rattle.wire.specs.Wire.{readField}
 use Rattle.wire_fields.specs.FieldAnswer.{meansFound, endsFound, nextIn}
 use Rattle.wire_fields.specs.declared.Found.{Found}
 use Rattle.tree.specs.Rules.{ruleOf}
-use Rattle.tree.specs.Tree.{Content, cInt, cRaw, cFix, cMsg, Item, item, find, add, level}
+use Rattle.tree.specs.Tree.{guard, later, Content, cInt, cRaw, cFix, cMsg, Item, item, add, level}
 use Rattle.field_values.specs.Taken.{meansTaken, insideTaken}
 use Rattle.field_rules.specs.Judged.{isSingle, Marks, Takes, Judges}
-use Rattle.fields.specs.Slots.{Sized, placeOf, Shows, Holds, Tells}
+use Rattle.fields.specs.Slots.{findLast, Sized, placeOf, Shows, Holds, Tells}
 use Rattle.tree.specs.declared.Kind.{Kind}
+use Rattle.tree.specs.OptionLaws.{nothing-some}
 use Rattle.field_values.specs.declared.Taken.{Taken}
 use Rattle.field_values.specs.declared.Taken.the-variants.{Number, Slice, Fixed, Inside, Wrong}
 use Rattle.field_rules.specs.declared.Judged.{Judged}
@@ -26,22 +27,26 @@ use Rattle.field_rules.specs.declared.Judged.the-variants.{Refuse, Skip, Take}
 use Rattle.fields.specs.declared.slots.Place.{Place}
 use Rattle.fields.specs.declared.slots.Slots.{Slots}
 use Rattle.field_rules.proofs.Bits.{no-bit}
-use Rattle.field_rules.proofs.Judging.{orElse, find-last}
 use Rattle.fields.proofs.Walking.{Walk, walk-start, walk-end, walk-none, walk-refuse, walk-on}
 
-nothing-some : {A B : Type 0} {a : A} → _≡_ {A = Option A} none (some a) → B
-nothing-some e = let z : _≡_ {A = ℕ} 0 1 = cc in absurd (omega arith)
-
 pub no-marks : (k : Kind) → Marks k 0 []
-no-marks k = record { small = omega arith; marks = λ n w. no-bit n }
+no-marks k = record { small = omega arith; marks = λ n w. no-bit n; alone = λ e n w. tt }
 
 pub empty-holds : (k : Kind) (s : List ℕ) → Holds k s (record { ok = true; has = 0; value = replicate 16 0; len = replicate 16 0 }) []
 empty-holds k s = record { ok = refl; sized = record { value = refl; len = refl }; marks = no-marks k; shows = λ n c w e. nothing-some e }
 
 -- one item more -------------------------------------------------------------------------
-or-none : {A : Type 0} (o : Option A) → orElse o none ≡ o
-or-none none = refl
-or-none (some a) = refl
+last-snoc : (m n : ℕ) (c : Content) (is : List Item) → findLast m (is ++ (item n c ∷ [])) ≡ choose (eqb m n) (some c) (findLast m is)
+last-snoc m n c [] = go (eqb m n)
+  where
+    go : (b : Bool) → later none (guard b c) ≡ choose b (some c) none
+    go true = refl
+    go false = refl
+last-snoc m n c (item j d ∷ is) = ap (λ o. later o (guard (eqb m j) d)) (last-snoc m n c is) ∙ go (eqb m n)
+  where
+    go : (b : Bool) → later (choose b (some c) (findLast m is)) (guard (eqb m j) d) ≡ choose b (some c) (later (findLast m is) (guard (eqb m j) d))
+    go true = refl
+    go false = refl
 
 module _ (k : Kind) (s : List ℕ) (t : Slots) (is : List Item) (f : Found) (n seen : ℕ) (w : Taken) (h : Holds k s t is) (y : Takes s k is f n seen w) (c : Content) where
   holds-more : (u : Slots) → u .ok ≡ true → u .has ≡ seen → Sized u → ((m : ℕ) → (m ≡ n → ⊥) → getD (u .value) m 0 ≡ getD (t .value) m 0)
@@ -49,19 +54,16 @@ module _ (k : Kind) (s : List ℕ) (t : Slots) (is : List Item) (f : Found) (n s
   holds-more u o p z a b x =
       record { ok = o; sized = z; marks = subst (λ (j : ℕ). Marks k j (is ++ (item n c ∷ []))) (sym p) (y .marked c); shows = λ m d g e. at m d g e (eqb m n) refl }
     where
-      at : (m : ℕ) (d : Content) → isSingle (ruleOf k m) ≡ true → find m (is ++ (item n c ∷ [])) ≡ some d → (b : Bool) → eqb m n ≡ b
+      at : (m : ℕ) (d : Content) → isSingle (ruleOf k m) ≡ true → findLast m (is ++ (item n c ∷ [])) ≡ some d → (b : Bool) → eqb m n ≡ b
           → Shows s (getD (u .value) m 0) (getD (u .len) m 0) d
       at m d g e true q =
           let r : m ≡ n = eqb-true m n q in
-          let g' : isSingle (ruleOf k n) ≡ true = subst (λ (j : ℕ). isSingle (ruleOf k j) ≡ true) r g in
-          let v : find m (is ++ (item n c ∷ [])) ≡ some c
-          = find-last m n c is ∙ ap (λ b. orElse (find m is) (choose b (some c) none)) q ∙ ap (λ o. orElse o (some c)) (ap (λ j. find j is) r ∙ y .fresh g') in
+          let v : findLast m (is ++ (item n c ∷ [])) ≡ some c = last-snoc m n c is ∙ ap (λ b. choose b (some c) (findLast m is)) q in
           let i : c ≡ d = cc (v, e) in
           subst (λ (d : Content). Shows s (getD (u .value) m 0) (getD (u .len) m 0) d) i (subst (λ (j : ℕ). Shows s (getD (u .value) j 0) (getD (u .len) j 0) c) (sym r) x)
       at m d g e false q =
           let r = eqb-false m n q in
-          let v : find m is ≡ some d
-          = sym (find-last m n c is ∙ ap (λ b. orElse (find m is) (choose b (some c) none)) q ∙ or-none (find m is)) ∙ e in
+          let v : findLast m is ≡ some d = sym (last-snoc m n c is ∙ ap (λ b. choose b (some c) (findLast m is)) q) ∙ e in
           rw (a m r, b m r) (h .shows m d g v)
 
 abbrev pub slotsOf : ℕ → List ℕ → List ℕ → Slots

@@ -1,18 +1,24 @@
 -- What the slots show of a message's level.
 use Prim.Native.Nat.{ℕ, _+_, _≤_}
 use mathlib.Core.Path.{_≡_}
-use mathlib.Core.List.{List}
+use mathlib.Core.List.{List, [], _∷_}
 use mathlib.Core.Option.{Option, none, some}
 use mathlib.Core.Bool.{true, false}
 use lib.ListN.{length, take, drop, getD}
+use lib.Dec.{eqb}
 use Rattle.tree.specs.Rules.{ruleOf}
-use Rattle.tree.specs.Tree.{Content, cInt, cRaw, cFix, cMsg, Item, find}
+use Rattle.tree.specs.Tree.{guard, later, Content, cInt, cRaw, cFix, cMsg, Item, item}
 use Rattle.field_rules.specs.Judged.{isSingle, Marks}
 use Rattle.tree.specs.declared.Kind.{Kind}
 use Rattle.field_values.specs.declared.Taken.{Taken}
 use Rattle.field_values.specs.declared.Taken.the-variants.{Number, Slice, Fixed, Inside, Wrong}
 use Rattle.fields.specs.declared.slots.Place.{Place}
 use Rattle.fields.specs.declared.slots.Slots.{Slots}
+
+-- the last item of a number
+abbrev pub findLast : ℕ → List Item → Option Content
+findLast n [] = none
+findLast n (item m c ∷ is) = later (findLast n is) (guard (eqb n m) c)
 
 -- the arrays are whole
 pub record Sized (t : Slots) : Type 0 where
@@ -39,7 +45,7 @@ pub record Holds (k : Kind) (s : List ℕ) (t : Slots) (is : List Item) : Type 0
   pub ok : t .ok ≡ true
   pub sized : Sized t
   pub marks : Marks k (t .has) is
-  pub shows : (n : ℕ) (c : Content) → isSingle (ruleOf k n) ≡ true → find n is ≡ some c → Shows s (getD (t .value) n 0) (getD (t .len) n 0) c
+  pub shows : (n : ℕ) (c : Content) → isSingle (ruleOf k n) ≡ true → findLast n is ≡ some c → Shows s (getD (t .value) n 0) (getD (t .len) n 0) c
 
 -- the slots say what a level holds, or that it is refused
 abbrev pub Tells : Kind → List ℕ → Slots → Option (List Item) → Type 0

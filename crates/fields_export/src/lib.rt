@@ -4,9 +4,12 @@ ghost use Prim.Native.Nat.{_<_};
 ghost use Rattle.wire.specs.Reader.{choose};
 ghost use Rattle.tree.specs.Tree.{isSome, listed};
 ghost use Rattle.fields.specs.Slots.{Sized};
+ghost use Rattle.protocol.specs.Reading.{decodes};
 use fields::nested::reads;
 use fields::slots::Slots;
 use fields::slots::collect;
+use requests::Request;
+use requests::read_request;
 use tree::Kind;
 
 fn answer(decodes: bool) -> u32
@@ -98,4 +101,36 @@ pub extern "C" fn fields_put(s: &[u8], out: &mut [u64; 16]) -> u32
         values(s, out);
     }
     answer(decodes)
+}
+
+// The same values out of a request.
+fn asked(r: Request, out: &mut [u64; 16]) {
+    let h = r.header;
+    let e = r.body.entry;
+    out[0] = h.cluster.value;
+    out[1] = h.connection.value;
+    out[2] = h.sequence.value;
+    out[3] = h.kind.value;
+    out[4] = e.version.start as u64;
+    out[5] = e.version.len as u64;
+    out[6] = e.key.start as u64;
+    out[7] = e.key.len as u64;
+    out[8] = e.expected.start as u64;
+    out[9] = e.expected.len as u64;
+    out[10] = e.tag.start as u64;
+    out[11] = e.tag.len as u64;
+    out[12] = e.algorithm.value;
+}
+
+// As the box reads it, with every field of a request: 0 if the command decodes, and then what that of a PUT holds, for measuring alone; else 1.
+#[no_mangle]
+pub extern "C" fn fields_request(s: &[u8], out: &mut [u64; 16]) -> u32
+    ensures { λ r. ⌜ r ≡ choose (isSome (decodes (now (s .entry)))) 0 1 ⌝ }
+{
+    let r = read_request(s);
+    let ok = r.ok;
+    if ok {
+        asked(r, out);
+    }
+    answer(ok)
 }

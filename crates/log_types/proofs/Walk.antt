@@ -9,39 +9,40 @@ use lib.Dec.{eqb}
 use borrow.Author.Tests.{eqb-true}
 use Rattle.wire.specs.Reader.{choose}
 use Rattle.tree.specs.Rules.{namesOf}
-use Rattle.tree.specs.Tree.{among, consIf}
+use Rattle.tree.specs.Tree.{among, consIf, intsAt}
+use Rattle.tree.specs.Merged.{ints-join}
+use Rattle.protocol.specs.Command.{typesOf}
 use Rattle.tree.specs.declared.Kind.the-variants as kind
 use Rattle.tree.specs.declared.Names.the-variants.{LogType}
 use Rattle.access.specs.Table.{withBit, maskOf}
 use Rattle.access.specs.Mask.{mask-more}
-use Rattle.lookups.specs.Views.{Inside, bytesAt}
+use Rattle.lookups.specs.Views.{Inside, Reads, bytesAt, treeOf, After}
 use Rattle.repeated_fields.specs.Values.{numbersIn, numbersOf, WellFramed, NextNumIs}
 use Rattle.repeated_fields.specs.RepeatedLaws.{AllAmong, repeated-named, repeated-among, reads-framed}
 use Rattle.lookups.specs.declared.parts.Part.{Part}
 use Rattle.repeated_fields.specs.declared.NextNum.{NextNum}
 use Rattle.repeated_fields.proofs.Seeking.{no-values}
-use Rattle.log_types.specs.Types.{StandsLog, typesIn, TypesAre}
+use Rattle.log_types.specs.Types.{LogTypes}
 
 -- the types so far, and those to come
-pub record Walk (s : List ℕ) (p left : Part) (mask : ℕ) : Type 0 where
+pub record Walk (s : List ℕ) (p left : Part) (before mask : ℕ) : Type 0 where
   pub inside : Inside s left
   pub framed : WellFramed (bytesAt s left)
   pub named : AllAmong (namesOf LogType) (numbersIn 1 (bytesAt s left))
   pub past : List ℕ
-  pub split : typesIn s p ≡ past ++ numbersIn 1 (bytesAt s left)
-  pub set : mask ≡ maskOf past
+  pub split : typesOf (treeOf kind.GetLog (bytesAt s p)) ≡ past ++ numbersIn 1 (bytesAt s left)
+  pub set : (xs : List ℕ) → before ≡ maskOf xs → mask ≡ maskOf (xs ++ past)
 
-pub walk-start : (s : List ℕ) (p : Part) → StandsLog s p → Walk s p p 0
-unfolding maskOf
-walk-start s p y =
+pub walk-start : (s : List ℕ) (p : Part) (before : ℕ) → Inside s p → Reads kind.GetLog (bytesAt s p) → Walk s p p before before
+walk-start s p before i y =
     let m = bytesAt s p in
     record {
-      inside = y .inside;
-      framed = reads-framed kind.GetLog m (y .reads);
-      named = repeated-among kind.GetLog m (y .reads) 1 LogType refl;
+      inside = i;
+      framed = reads-framed kind.GetLog m y;
+      named = repeated-among kind.GetLog m y 1 LogType refl;
       past = [];
-      split = repeated-named kind.GetLog m (y .reads) 1 LogType refl;
-      set = refl;
+      split = repeated-named kind.GetLog m y 1 LogType refl;
+      set = λ xs e. e ∙ ap maskOf (sym (append-nil xs));
     }
 
 empty-part : (s : List ℕ) (left : Part) → left .len ≤ 0 → bytesAt s left ≡ []
@@ -65,18 +66,21 @@ below : (v : ℕ) → among v (namesOf LogType) ≡ true → v < 8
 below v e =
     among-below v (namesOf LogType) (omega arith, (omega arith, (omega arith, (omega arith, (omega arith, (omega arith, (omega arith, (omega arith, tt)))))))) e
 
-module _ {s : List ℕ} {p left : Part} {mask : ℕ} (w : Walk s p left mask) where
-  ends : numbersIn 1 (bytesAt s left) ≡ [] → TypesAre (typesIn s p) mask
-  ends e = record { set = w .set ∙ ap maskOf (sym (w .split ∙ ap (λ (l : List ℕ). w .past ++ l) e ∙ append-nil (w .past))) }
+module _ {s : List ℕ} {p left : Part} {before mask : ℕ} (w : Walk s p left before mask) where
+  ends : numbersIn 1 (bytesAt s left) ≡ [] → After LogTypes before mask (treeOf kind.GetLog (bytesAt s p))
+  ends e t h =
+      let u = treeOf kind.GetLog (bytesAt s p) in
+      let q : w .past ≡ intsAt 1 u = sym (w .split ∙ ap (λ (l : List ℕ). w .past ++ l) e ∙ append-nil (w .past)) in
+      record { set = w .set (intsAt 1 t) (h .set) ∙ ap maskOf (ap (λ (l : List ℕ). intsAt 1 t ++ l) q ∙ sym (ints-join 1 t u)) }
 
-  pub walk-empty : left .len ≤ 0 → TypesAre (typesIn s p) mask
+  pub walk-empty : left .len ≤ 0 → After LogTypes before mask (treeOf kind.GetLog (bytesAt s p))
   walk-empty h = ends (ap (λ (b : List ℕ). numbersIn 1 b) (empty-part s left h) ∙ ap numbersOf (no-values 1))
 
   module _ (x : NextNum) (h : NextNumIs s left 1 x) where
     next : (b : Bool) → x .num .has ≡ b → numbersIn 1 (bytesAt s left) ≡ consIf b (x .num .value) (numbersIn 1 (bytesAt s (x .rest)))
     next b e = h .first (w .framed) ∙ ap (λ (b : Bool). consIf b (x .num .value) (numbersIn 1 (bytesAt s (x .rest)))) e
 
-    pub walk-end : x .num .has ≡ false → TypesAre (typesIn s p) mask
+    pub walk-end : x .num .has ≡ false → After LogTypes before mask (treeOf kind.GetLog (bytesAt s p))
     walk-end e = ends (next false e ∙ h .last e)
 
     module _ (e : x .num .has ≡ true) where
@@ -86,7 +90,7 @@ module _ {s : List ℕ} {p left : Part} {mask : ℕ} (w : Walk s p left mask) wh
       pub walk-small : x .num .value < 8
       walk-small = below (x .num .value) (all-named .0)
 
-      pub walk-on : (m : ℕ) → m ≡ withBit mask (x .num .value) → Walk s p (x .rest) m
+      pub walk-on : (m : ℕ) → m ≡ withBit mask (x .num .value) → Walk s p (x .rest) before m
       walk-on m q =
           let v = x .num .value in
           let rest = numbersIn 1 (bytesAt s (x .rest)) in
@@ -96,5 +100,5 @@ module _ {s : List ℕ} {p left : Part} {mask : ℕ} (w : Walk s p left mask) wh
             named = all-named .1;
             past = w .past ++ (v ∷ []);
             split = w .split ∙ ap (λ (l : List ℕ). w .past ++ l) (next true e) ∙ sym (append-assoc (w .past) (v ∷ []) rest);
-            set = q ∙ ap (λ (k : ℕ). withBit k v) (w .set) ∙ mask-more (w .past) v;
+            set = λ xs e. q ∙ ap (λ (k : ℕ). withBit k v) (w .set xs e) ∙ mask-more (xs ++ w .past) v ∙ ap maskOf (append-assoc xs (w .past) (v ∷ []));
           }

@@ -1,13 +1,17 @@
-// The types that a GetLog asks for, as a set of bits.
+// The types that the GetLogs of a command ask for, as a set of bits.
 ghost use mathlib.Core.Path.{_≡_};
 ghost use mathlib.Core.List.{List};
 ghost use Prim.Native.Nat.{ℕ, _<_};
-ghost use Rattle.tree.specs.Tree.{among};
+ghost use Rattle.tree.specs.Tree.{among, subAt, treeIn};
+ghost use Rattle.lookups.specs.Views.{After, Inside, Reads, bytesAt, treeOf};
+ghost use Rattle.merged_parts.specs.Types.{logTypes};
 ghost use Rattle.protocol.specs.Judge.{typesGood};
-ghost use Rattle.log_types.specs.Types.{StandsLog, typesIn, TypesAre};
+ghost use Rattle.log_types.specs.Types.{BodyTypes, LogTypes, TypesAre};
 use lookups::parts::Part;
 use permission_mask::with_bit;
 use repeated_fields::next_num;
+use repeated_fields::next_part;
+use tree::Kind;
 
 // Is this type in the set?
 pub fn asks(mask: u16, kind: u8) -> bool
@@ -17,13 +21,13 @@ pub fn asks(mask: u16, kind: u8) -> bool
     (mask >> kind) % 2 == 1
 }
 
-// The types of the GetLog in the part p.
-pub fn log_types(s: &[u8], p: Part) -> u16
-    requires { ⌜ StandsLog (now s) p ⌝ }
-    ensures { λ r. ⌜ TypesAre (typesIn (now (s .entry)) p) r ⌝ }
+// The types before and those of the GetLog in the part p.
+fn types_in(s: &[u8], p: Part, before: u16) -> u16
+    requires { ⌜ Inside (now s) p × Reads (Kind.GetLog) (bytesAt (now s) p) ⌝ }
+    ensures { λ r. ⌜ After LogTypes before r (treeOf (Kind.GetLog) (bytesAt (now (s .entry)) p)) ⌝ }
 {
     let mut left = p;
-    let mut mask = 0;
+    let mut mask = before;
     while 0 < left.len {
         let x = next_num(s, left, 1);
         let has = x.num.has;
@@ -34,6 +38,65 @@ pub fn log_types(s: &[u8], p: Part) -> u16
         left = x.rest;
     }
     mask
+}
+
+// The types before and those of every GetLog of the body in the part p.
+fn logs_in(s: &[u8], p: Part, before: u16) -> u16
+    requires { ⌜ Inside (now s) p × Reads (Kind.Body) (bytesAt (now s) p) ⌝ }
+    ensures { λ r. ⌜ After LogTypes before r (treeIn (subAt 6 (treeOf (Kind.Body) (bytesAt (now (s .entry)) p)))) ⌝ }
+{
+    let mut left = p;
+    let mut mask = before;
+    while 0 < left.len {
+        let x = next_part(s, left, 6);
+        let has = x.part.has;
+        if !has {
+            return mask;
+        }
+        mask = types_in(s, x.part, mask);
+        left = x.rest;
+    }
+    mask
+}
+
+// The same, of the body.
+fn body_types(s: &[u8], p: Part, before: u16) -> u16
+    requires { ⌜ Inside (now s) p × Reads (Kind.Body) (bytesAt (now s) p) ⌝ }
+    ensures { λ r. ⌜ After BodyTypes before r (treeOf (Kind.Body) (bytesAt (now (s .entry)) p)) ⌝ }
+{
+    logs_in(s, p, before)
+}
+
+// The types before and those of every body of the command in the part p.
+fn all_types(s: &[u8], p: Part, before: u16) -> u16
+    requires { ⌜ Inside (now s) p × Reads (Kind.Command) (bytesAt (now s) p) ⌝ }
+    ensures { λ r. ⌜ After BodyTypes before r (treeIn (subAt 2 (treeOf (Kind.Command) (bytesAt (now (s .entry)) p)))) ⌝ }
+{
+    let mut left = p;
+    let mut mask = before;
+    while 0 < left.len {
+        let x = next_part(s, left, 2);
+        let has = x.part.has;
+        if !has {
+            return mask;
+        }
+        mask = body_types(s, x.part, mask);
+        left = x.rest;
+    }
+    mask
+}
+
+// The types that the command asks for.
+pub fn log_types(s: &[u8]) -> u16
+    requires { ⌜ Reads (Kind.Command) (now s) ⌝ }
+    ensures { λ r. ⌜ TypesAre (logTypes (now (s .entry))) r ⌝ }
+{
+    let whole = Part {
+        has: true,
+        start: 0,
+        len: s.len(),
+    };
+    all_types(s, whole, 0)
 }
 
 // Is there a type, and none of 3, 4 and 5?

@@ -1,7 +1,6 @@
 // GETLOG: what the host lends, how full the store is, and the limits, shown in a reply.
 use log_types::asks;
 use log_types::log_types;
-use lookups::parts::Part;
 use sending::Address;
 use sending::ack;
 use sending::status;
@@ -13,10 +12,12 @@ ghost use Rattle.store.specs.Store.{Good};
 ghost use Rattle.readings.specs.Lent.{readingsGood};
 ghost use Rattle.protocol.specs.State.{State};
 ghost use Rattle.protocol.specs.Judge.{logged};
-ghost use Rattle.log_types.specs.Types.{StandsLog, typesIn};
+ghost use Rattle.merged_parts.specs.Types.{logTypes};
+ghost use Rattle.lookups.specs.Views.{Reads};
+ghost use Rattle.tree.specs.declared.Kind.the-variants.{Command};
 ghost use Rattle.sending.specs.Sent.{Sent, replied};
 
-// The log that the GetLog in the part p asks for, or NOT_FOUND.
+// The log that the command s asks for, or NOT_FOUND.
 pub fn get_log(
     out: &mut [u8],
     by: &[u8],
@@ -24,12 +25,11 @@ pub fn get_log(
     store: &[u8],
     readings: &[u8],
     s: &[u8],
-    p: Part,
 ) -> usize
-    requires { ⌜ (4096 ≤ length (now out)) × (length (now by) ≤ 64) × Good (now store) × (readingsGood (now readings) ≡ true) × StandsLog (now s) p ⌝ }
-    ensures { λ r. ⌜ ((t : State) → t .store ≡ now (store .entry) → t .readings ≡ now (readings .entry) → Sent (replied a (now (by .entry)) (logged t (typesIn (now (s .entry)) p))) r (now (out .entry)) (now (out .exit)) t) ⌝ }
+    requires { ⌜ (4096 ≤ length (now out)) × (length (now by) ≤ 64) × Good (now store) × (readingsGood (now readings) ≡ true) × Reads Command (now s) ⌝ }
+    ensures { λ r. ⌜ ((t : State) → t .store ≡ now (store .entry) → t .readings ≡ now (readings .entry) → Sent (replied a (now (by .entry)) (logged t (logTypes (now (s .entry))))) r (now (out .entry)) (now (out .exit)) t) ⌝ }
 {
-    let types = log_types(s, p);
+    let types = log_types(s);
     if asks(types, 7) {
         return status(out, by, a, 7);
     }

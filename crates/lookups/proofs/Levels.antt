@@ -1,16 +1,18 @@
 -- A level in a part: what its look-ups ask, and the message that one of them gives.
 use Prim.Native.Nat.{ℕ, _<_}
-use mathlib.Core.Path.{_≡_}
+use native.Mathlib.Omega.{arith}
+use mathlib.Core.Path.{_≡_, refl, sym, _∙_}
 use mathlib.Core.List.{List}
-use mathlib.Core.Bool.{true}
+use mathlib.Core.Option.{Option, none, some}
+use mathlib.Core.Bool.{Bool, true, false}
 use Rattle.tree.specs.Rules.{ruleOf}
-use Rattle.tree.specs.Tree.{level, subAt}
+use Rattle.tree.specs.Tree.{isSome, level, Tree, done, subAt, treeIn}
+use Rattle.field_rules.specs.Judged.{bit}
 use Rattle.fields.specs.Slots.{Tells, Sized}
 use Rattle.tree.specs.declared.Kind.{Kind}
 use Rattle.tree.specs.declared.Form.the-variants.{Nested}
-use Rattle.tree.specs.declared.Rule.the-variants.{Single}
 use Rattle.fields.specs.declared.slots.Slots.{Slots}
-use Rattle.lookups.specs.Views.{Reads, treeOf, bytesAt, Inside, Level, SlotInside, PartIs, Sub}
+use Rattle.lookups.specs.Views.{Reads, treeOf, bytesAt, Inside, Level, SlotInside, Singular, Alone, PartIs, Only}
 use Rattle.lookups.specs.declared.parts.Part.{Part}
 use Rattle.lookups.proofs.Slotted.{isPart, level-sized, part-ready}
 
@@ -24,8 +26,14 @@ module _ (k : Kind) (s : List ℕ) (p : Part) (t : Slots) (h : Tells k (bytesAt 
   pub part-at : (n : ℕ) → n < 16 → isPart (ruleOf k n) ≡ true → (n < 16) × Sized t × Inside s p × SlotInside (bytesAt s p) t n
   part-at n l e = part-ready k s p t level-at (y .0) n l e
 
-  pub sub-at : (n : ℕ) (k' : Kind) → ruleOf k n ≡ Single (Nested k') → (r : Part) → PartIs s p t n r → Sub k' s r (subAt n (treeOf k (bytesAt s p)))
-  sub-at n k' q r e = e .message k k' level-at q
+  pub only-at : (n : ℕ) (k' : Kind) → Singular (Nested k') (ruleOf k n) → (bit (t .has) 0 ≡ false → Alone (ruleOf k n) t) → (r : Part) → PartIs s p t n r
+      → (twice : Bool) → twice ≡ bit (t .has) 0 → Only k' s r twice (subAt n (treeOf k (bytesAt s p)))
+  only-at n k' q a r e twice w = record { inside = e .lies .inside; here = e .here k k' level-at q; sole = λ f. e .message k k' level-at q (a (sym w ∙ f)) }
 
-  pub sub-reads : (n : ℕ) (k' : Kind) → ruleOf k n ≡ Single (Nested k') → (r : Part) → PartIs s p t n r → Inside s r × Reads k' (bytesAt s r)
-  sub-reads n k' q r e = (e .lies .inside, sub-at n k' q r e .reads)
+-- where there is none, it says nothing
+pub only-none : {k : Kind} {s : List ℕ} {r : Part} {twice : Bool} (o : Option Tree) → Only k s r twice o → r .has ≡ false → done ≡ treeIn o
+only-none o h e = go o (sym (h .here) ∙ e)
+  where
+    go : (o : Option Tree) → isSome o ≡ false → done ≡ treeIn o
+    go none f = refl
+    go (some t) f = let z : _≡_ {A = ℕ} 0 1 = cc (f) in absurd (omega arith)

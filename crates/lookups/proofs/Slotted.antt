@@ -10,17 +10,18 @@ use lib.ListN.{length, take, drop, getD, length-take, length-drop}
 use lib.Seq.{drop-drop, take-length}
 use Rattle.wire.specs.Wire.{Value, vint, v64, vlen, v32, fieldsOf, fieldsIn}
 use Rattle.tree.specs.Rules.{namesOf, ruleOf}
-use Rattle.tree.specs.Tree.{mapO, guard, isSome, among, Content, cInt, cRaw, cMsg, Item, isInt32, ofInt, ofBytes, ofFixed, decode, find, items, level, Tree, done, openAll, listedIn, listed, intAt, rawAt, subAt}
-use Rattle.field_rules.specs.Judged.{bit, isSingle}
-use Rattle.fields.specs.Slots.{Sized, Holds, Tells, Shows}
+use Rattle.tree.specs.Tree.{mapO, guard, isSome, among, Content, cInt, cRaw, cMsg, Item, isInt32, ofInt, ofBytes, ofFixed, decode, find, items, level, Tree, done, openAll, listedIn, listed, intAt, rawAt, subAt, treeIn}
+use Rattle.field_rules.specs.Judged.{bit, isSingle, Sole}
+use Rattle.fields.specs.Slots.{findLast, Sized, Holds, Tells, Shows}
 use Rattle.tree.specs.declared.Kind.{Kind}
+use Rattle.tree.specs.OptionLaws.{nothing-some, none-of}
 use Rattle.tree.specs.declared.Form.{Form}
 use Rattle.tree.specs.declared.Form.the-variants.{Int64, Int32, Named, Flag, Bytes, Opaque, Float, Nested}
 use Rattle.tree.specs.declared.Rule.{Rule}
-use Rattle.tree.specs.declared.Rule.the-variants.{Unlisted, Refused, Single, Repeated}
+use Rattle.tree.specs.declared.Rule.the-variants.{Unlisted, Refused, Once, Single, Repeated}
 use Rattle.fields.specs.declared.slots.Slots.{Slots}
-use Rattle.lookups.specs.Views.{orDone, treeOf, bytesAt, noPart, Inside, Lies, Level, SlotInside, isNumber, NumIs, Sub, PartIs}
-use Rattle.lookups.specs.LevelLaws.{nothing-some, level-decodes, level-once, level-of, intC, rawC, subC, int-look, raw-look, sub-look, open-message}
+use Rattle.lookups.specs.Views.{treeOf, bytesAt, noPart, Inside, Lies, Level, SlotInside, Singular, isNumeric, isNumber, Alone, NumIs, Sub, PartIs}
+use Rattle.lookups.specs.LevelLaws.{Is, Decodes, all-more, level-all, level-decodes, level-once, last-there, sole-last, level-of, intC, rawC, subC, int-look, raw-look, sub-look, IsMessage, there-look, open-message}
 use Rattle.lookups.specs.declared.parts.Part.{Part}
 
 -- the forms ------------------------------------------------------------------------------------
@@ -37,18 +38,29 @@ numeric f h g i (v64 b) c e = nothing-some e
 numeric f h g i (vlen b) c e = nothing-some (sym (g b) ∙ e)
 numeric f h g i (v32 b) c e = nothing-some (sym (i b) ∙ e)
 
-number-form : (r : Rule) → isNumber r ≡ true → (f : Form) × (r ≡ Single f) × Numeric f
+numeric-form : (f : Form) → isNumeric f ≡ true → Numeric f
+numeric-form Int64 e = numeric Int64 (λ v c q. guard-int true v c q) (λ b. refl) (λ b. refl)
+numeric-form Int32 e = numeric Int32 (λ v c q. guard-int (isInt32 v) v c q) (λ b. refl) (λ b. refl)
+numeric-form (Named x) e = numeric (Named x) (λ v c q. guard-int (among v (namesOf x)) v c q) (λ b. refl) (λ b. refl)
+numeric-form Flag e = numeric Flag (λ v c q. guard-int true _ c q) (λ b. refl) (λ b. refl)
+numeric-form Bytes e = let z : _≡_ {A = ℕ} 0 1 = cc in absurd (omega arith)
+numeric-form Opaque e = let z : _≡_ {A = ℕ} 0 1 = cc in absurd (omega arith)
+numeric-form Float e = let z : _≡_ {A = ℕ} 0 1 = cc in absurd (omega arith)
+numeric-form (Nested k) e = let z : _≡_ {A = ℕ} 0 1 = cc in absurd (omega arith)
+
+number-form : (r : Rule) → isNumber r ≡ true → (f : Form) × Singular f r × Numeric f
 number-form Unlisted e = let z : _≡_ {A = ℕ} 0 1 = cc in absurd (omega arith)
 number-form Refused e = let z : _≡_ {A = ℕ} 0 1 = cc in absurd (omega arith)
-number-form (Single Int64) e = (Int64, refl, numeric Int64 (λ v c q. guard-int true v c q) (λ b. refl) (λ b. refl))
-number-form (Single Int32) e = (Int32, refl, numeric Int32 (λ v c q. guard-int (isInt32 v) v c q) (λ b. refl) (λ b. refl))
-number-form (Single (Named x)) e = (Named x, refl, numeric (Named x) (λ v c q. guard-int (among v (namesOf x)) v c q) (λ b. refl) (λ b. refl))
-number-form (Single Flag) e = (Flag, refl, numeric Flag (λ v c q. guard-int true _ c q) (λ b. refl) (λ b. refl))
-number-form (Single Bytes) e = let z : _≡_ {A = ℕ} 0 1 = cc in absurd (omega arith)
-number-form (Single Opaque) e = let z : _≡_ {A = ℕ} 0 1 = cc in absurd (omega arith)
-number-form (Single Float) e = let z : _≡_ {A = ℕ} 0 1 = cc in absurd (omega arith)
-number-form (Single (Nested k)) e = let z : _≡_ {A = ℕ} 0 1 = cc in absurd (omega arith)
+number-form (Once f) e = (f, refl, numeric-form f e)
+number-form (Single f) e = (f, refl, numeric-form f e)
 number-form (Repeated f) e = let z : _≡_ {A = ℕ} 0 1 = cc in absurd (omega arith)
+
+singular-single : (r : Rule) (f : Form) → Singular f r → isSingle r ≡ true
+singular-single Unlisted f s = absurd s
+singular-single Refused f s = absurd s
+singular-single (Once g) f s = refl
+singular-single (Single g) f s = refl
+singular-single (Repeated g) f s = absurd s
 
 raw-of : (v : Value) (c : Content) → decode Bytes v ≡ some c → (b : List ℕ) × (c ≡ cRaw b)
 raw-of (vint v) c e = nothing-some e
@@ -65,10 +77,6 @@ message-of k (v32 b) c e = nothing-some e
 some-of : {A : Type 0} (o : Option A) → isSome o ≡ true → (a : A) × (o ≡ some a)
 some-of none e = let z : _≡_ {A = ℕ} 0 1 = cc in absurd (omega arith)
 some-of (some a) e = (a, refl)
-
-none-of : {A : Type 0} (o : Option A) → isSome o ≡ false → o ≡ none
-none-of none e = refl
-none-of (some a) e = let z : _≡_ {A = ℕ} 0 1 = cc in absurd (omega arith)
 
 -- a level that decodes ---------------------------------------------------------------------------
 module _ (k : Kind) (m : List ℕ) (t : Slots) (y : Level k m t) where
@@ -89,30 +97,59 @@ module _ (k : Kind) (m : List ℕ) (t : Slots) (y : Level k m t) where
   pub level-sized : Sized t
   level-sized = holds .sized
 
-  module _ (n : ℕ) (f : Form) (q : ruleOf k n ≡ Single f) where
+  module _ (n : ℕ) (f : Form) (q : Singular f (ruleOf k n)) where
     single : isSingle (ruleOf k n) ≡ true
-    single = ap isSingle q
+    single = singular-single (ruleOf k n) f q
 
-    present : bit (t .has) n ≡ true → (c : Content) × (find n its ≡ some c)
-    present e = some-of (find n its) (sym (holds .marks .marks n single) ∙ e)
+    there : bit (t .has) n ≡ isSome (findLast n its)
+    there = holds .marks .marks n single ∙ sym (last-there n its)
 
-    absent : bit (t .has) n ≡ false → find n its ≡ none
-    absent e = none-of (find n its) (sym (holds .marks .marks n single) ∙ e)
+    present : bit (t .has) n ≡ true → (c : Content) × (findLast n its ≡ some c)
+    present e = some-of (findLast n its) (sym there ∙ e)
 
-    decoded : {c : Content} → find n its ≡ some c → (v : Value) × (decode f v ≡ some c)
+    absent : bit (t .has) n ≡ false → findLast n its ≡ none
+    absent e = none-of (findLast n its) (sym there ∙ e)
+
+    decoded : {c : Content} → findLast n its ≡ some c → (v : Value) × (decode f v ≡ some c)
     decoded e = level-decodes k n f m its q is-level e
 
-    shown : {c d : Content} → find n its ≡ some c → c ≡ d → Shows m (getD (t .value) n 0) (getD (t .len) n 0) d
+    shown : {c d : Content} → findLast n its ≡ some c → c ≡ d → Shows m (getD (t .value) n 0) (getD (t .len) n 0) d
     shown {c} e w = subst (λ (d : Content). Shows m (getD (t .value) n 0) (getD (t .len) n 0) d) w (holds .shows n c single e)
 
-    int-is : {o : Option Content} → find n its ≡ o → intAt n (treeOf k m) ≡ intC o
-    int-is e = int-look n its (treeOf k m) is-open (level-once k n single m is-level) ∙ ap intC e
+    int-is : ((c : Content) → Decodes f c → Is intC c) → {o : Option Content} → findLast n its ≡ o → intAt n (treeOf k m) ≡ intC o
+    int-is g e = int-look n its (treeOf k m) is-open (all-more (Decodes f) (Is intC) n its g (level-all k n f m its q is-level)) ∙ ap intC e
 
-    raw-is : {o : Option Content} → find n its ≡ o → rawAt n (treeOf k m) ≡ rawC o
-    raw-is e = raw-look n its (treeOf k m) is-open (level-once k n single m is-level) ∙ ap rawC e
+    raw-is : ((c : Content) → Decodes f c → Is rawC c) → {o : Option Content} → findLast n its ≡ o → rawAt n (treeOf k m) ≡ rawC o
+    raw-is g e = raw-look n its (treeOf k m) is-open (all-more (Decodes f) (Is rawC) n its g (level-all k n f m its q is-level)) ∙ ap rawC e
 
-    sub-is : {o : Option Content} → find n its ≡ o → subAt n (treeOf k m) ≡ subC o
-    sub-is e = sub-look n its (treeOf k m) is-open (level-once k n single m is-level) ∙ ap subC e
+    -- where it occurs at most once
+    module _ (a : Alone (ruleOf k n) t) where
+      sole : Sole n its
+      sole = go (ruleOf k n) refl a
+        where
+          go : (r : Rule) → ruleOf k n ≡ r → Alone r t → Sole n its
+          go Unlisted e h = absurd h
+          go Refused e h = absurd h
+          go (Once g) e h = level-once k n g e m is-level
+          go (Single g) e h = holds .marks .alone h n single
+          go (Repeated g) e h = absurd h
+
+      sole-find : findLast n its ≡ find n its
+      sole-find = sole-last n its sole
+
+      sub-is : {o : Option Content} → findLast n its ≡ o → subAt n (treeOf k m) ≡ subC o
+      sub-is e = sub-look n its (treeOf k m) is-open sole ∙ ap subC (sym sole-find ∙ e)
+
+  -- whether there is a message of the number
+  message-there : (n : ℕ) (k' : Kind) → Singular (Nested k') (ruleOf k n) → bit (t .has) n ≡ isSome (subAt n (treeOf k m))
+  message-there n k' q =
+      there n (Nested k') q ∙ sym (there-look n its (treeOf k m) is-open (all-more (Decodes (Nested k')) IsMessage n its sort (level-all k n (Nested k') m its q is-level)))
+    where
+      sort : (c : Content) → Decodes (Nested k') c → IsMessage c
+      sort c d = let x = message-of k' (d .0) c (d .1) in subst IsMessage (sym (x .1)) tt
+
+  int-sort : (f : Form) → Numeric f → (c : Content) → Decodes f c → Is intC c
+  int-sort f g c d = let x = g (d .0) c (d .1) in (x .0, ap (λ c. intC (some c)) (x .1))
 
   number-here : (n : ℕ) → isNumber (ruleOf k n) ≡ true → bit (t .has) n ≡ true → some (getD (t .value) n 0) ≡ intAt n (treeOf k m)
   number-here n i e =
@@ -121,10 +158,10 @@ module _ (k : Kind) (m : List ℕ) (t : Slots) (y : Level k m t) where
       let d = decoded n (g .0) (g .1) (c .1) in
       let x = g .2 (d .0) (c .0) (d .1) in
       let w : getD (t .value) n 0 ≡ x .0 = shown n (g .0) (g .1) (c .1) (x .1) in
-      ap some w ∙ sym (int-is n (g .0) (g .1) (c .1) ∙ ap (λ c. intC (some c)) (x .1))
+      ap some w ∙ sym (int-is n (g .0) (g .1) (int-sort (g .0) (g .2)) (c .1) ∙ ap (λ c. intC (some c)) (x .1))
 
   number-none : (n : ℕ) → isNumber (ruleOf k n) ≡ true → bit (t .has) n ≡ false → none ≡ intAt n (treeOf k m)
-  number-none n i e = let g = number-form (ruleOf k n) i in sym (int-is n (g .0) (g .1) (absent n (g .0) (g .1) e))
+  number-none n i e = let g = number-form (ruleOf k n) i in sym (int-is n (g .0) (g .1) (int-sort (g .0) (g .2)) (absent n (g .0) (g .1) e))
 
 pub num-is : (t : Slots) (n : ℕ) (b : Bool) → b ≡ bit (t .has) n → b ≡ true → NumIs t n (record { has = true; value = getD (t .value) n 0 })
 num-is t n b e y k m l i = number-here k m t l n i (sym e ∙ y)
@@ -165,18 +202,22 @@ nil-reads k = refl
 pub lies-no : (s : List ℕ) → Lies s noPart
 lies-no s = record { inside = omega arith; empty = nil-at s }
 
-sub-of : (k : Kind) (s : List ℕ) (r : Part) (x : List ℕ) (u : Tree) (o : Option Tree) → bytesAt s r ≡ x → listed k x ≡ some u → orDone o ≡ u → r .has ≡ isSome o → Sub k s r o
+sub-of : (k : Kind) (s : List ℕ) (r : Part) (x : List ℕ) (u : Tree) (o : Option Tree) → bytesAt s r ≡ x → listed k x ≡ some u → treeIn o ≡ u → r .has ≡ isSome o → Sub k s r o
 unfolding treeOf
 sub-of k s r x u o e q w h =
     let z : listed k (bytesAt s r) ≡ some u = ap (listed k) e ∙ q in
-    record { reads = ap isSome z; tree = ap orDone z ∙ sym w; here = h }
+    record { reads = ap isSome z; tree = ap treeIn z ∙ sym w; here = h }
+
+raw-sort : (c : Content) → Decodes Bytes c → Is rawC c
+raw-sort c d = let x = raw-of (d .0) c (d .1) in (x .0, ap (λ c. rawC (some c)) (x .1))
 
 module _ (s : List ℕ) (p : Part) (t : Slots) (n : ℕ) (i : Inside s p) (b : Bool) (e : b ≡ bit (t .has) n) where
   pub part-no : b ≡ false → PartIs s p t n noPart
   part-no y = record {
-    bytes = λ k l q. sym (raw-is k (bytesAt s p) t l n Bytes q (absent k (bytesAt s p) t l n Bytes q (sym e ∙ y)));
-    message = λ k k' l q. let w = sub-is k (bytesAt s p) t l n (Nested k') q (absent k (bytesAt s p) t l n (Nested k') q (sym e ∙ y)) in
-        sub-of k' s noPart [] done (subAt n (treeOf k (bytesAt s p))) (nil-at s) (nil-reads k') (ap orDone w) (sym (ap isSome w));
+    bytes = λ k l q. sym (raw-is k (bytesAt s p) t l n Bytes q raw-sort (absent k (bytesAt s p) t l n Bytes q (sym e ∙ y)));
+    message = λ k k' l q a. let w = sub-is k (bytesAt s p) t l n (Nested k') q a (absent k (bytesAt s p) t l n (Nested k') q (sym e ∙ y)) in
+        sub-of k' s noPart [] done (subAt n (treeOf k (bytesAt s p))) (nil-at s) (nil-reads k') (ap treeIn w) (sym (ap isSome w));
+    here = λ k k' l q. sym (sym (message-there k (bytesAt s p) t l n k' q) ∙ sym e ∙ y);
     lies = lies-no s;
   }
 
@@ -191,27 +232,27 @@ module _ (s : List ℕ) (p : Part) (t : Slots) (n : ℕ) (i : Inside s p) (b : B
     same = inner-at s p true (getD (t .value) n 0) (getD (t .len) n 0) i fits
 
     pub part-is : PartIs s p t n (record { has = true; start = p .start + getD (t .value) n 0; len = getD (t .len) n 0 })
-    part-is = record { bytes = bytes; message = message; lies = record { inside = omega (arith, part-fits); empty = refl } }
+    part-is = record { bytes = bytes; message = message; here = λ k k' l q. sym (sym (message-there k (bytesAt s p) t l n k' q) ∙ sym e ∙ y); lies = record { inside = omega (arith, part-fits); empty = refl } }
       where
-        bytes : (k : Kind) → Level k (bytesAt s p) t → ruleOf k n ≡ Single Bytes
+        bytes : (k : Kind) → Level k (bytesAt s p) t → Singular Bytes (ruleOf k n)
             → some (bytesAt s (record { has = true; start = p .start + getD (t .value) n 0; len = getD (t .len) n 0 })) ≡ rawAt n (treeOf k (bytesAt s p))
         bytes k l q =
             let c = present k (bytesAt s p) t l n Bytes q (sym e ∙ y) in
             let d = decoded k (bytesAt s p) t l n Bytes q (c .1) in
             let x = raw-of (d .0) (c .0) (d .1) in
             let w = shown k (bytesAt s p) t l n Bytes q (c .1) (x .1) in
-            ap some (same ∙ w .0) ∙ sym (raw-is k (bytesAt s p) t l n Bytes q (c .1) ∙ ap (λ c. rawC (some c)) (x .1))
+            ap some (same ∙ w .0) ∙ sym (raw-is k (bytesAt s p) t l n Bytes q raw-sort (c .1) ∙ ap (λ c. rawC (some c)) (x .1))
 
-        message : (k k' : Kind) → Level k (bytesAt s p) t → ruleOf k n ≡ Single (Nested k')
+        message : (k k' : Kind) → Level k (bytesAt s p) t → Singular (Nested k') (ruleOf k n) → Alone (ruleOf k n) t
             → Sub k' s (record { has = true; start = p .start + getD (t .value) n 0; len = getD (t .len) n 0 }) (subAt n (treeOf k (bytesAt s p)))
-        message k k' l q =
+        message k k' l q a =
             let c = present k (bytesAt s p) t l n (Nested k') q (sym e ∙ y) in
             let d = decoded k (bytesAt s p) t l n (Nested k') q (c .1) in
             let x = message-of k' (d .0) (c .0) (d .1) in
             let w = shown k (bytesAt s p) t l n (Nested k') q (c .1) (x .1) in
-            let u = open-message n k' (x .0) (its k (bytesAt s p) t l) (treeOf k (bytesAt s p)) (is-open k (bytesAt s p) t l) (c .1 ∙ ap some (x .1)) in
-            let v : subAt n (treeOf k (bytesAt s p)) ≡ some (u .0) = sub-is k (bytesAt s p) t l n (Nested k') q (c .1) ∙ ap (λ c. subC (some c)) (x .1) ∙ u .1 in
-            sub-of k' s _ (x .0) (u .0) (subAt n (treeOf k (bytesAt s p))) (same ∙ w .0) (u .1) (ap orDone v) (sym (ap isSome v))
+            let u = open-message n k' (x .0) (its k (bytesAt s p) t l) (treeOf k (bytesAt s p)) (is-open k (bytesAt s p) t l) (sym (sole-find k (bytesAt s p) t l n (Nested k') q a) ∙ c .1 ∙ ap some (x .1)) in
+            let v : subAt n (treeOf k (bytesAt s p)) ≡ some (u .0) = sub-is k (bytesAt s p) t l n (Nested k') q a (c .1) ∙ ap (λ c. subC (some c)) (x .1) ∙ u .1 in
+            sub-of k' s _ (x .0) (u .0) (subAt n (treeOf k (bytesAt s p))) (same ∙ w .0) (u .1) (ap treeIn v) (sym (ap isSome v))
 
 pub opened : (s : List ℕ) (p : Part) (k : Kind) (r : Slots) → Tells k (take (p .start + p .len - p .start) (drop (p .start) s)) r (level k (take (p .start + p .len - p .start) (drop (p .start) s)))
     → Tells k (bytesAt s p) r (level k (bytesAt s p))
@@ -220,28 +261,32 @@ opened s p k r h = subst (λ (j : ℕ). Tells k (take j (drop (p .start) s)) r (
 
 -- for the callers ----------------------------------------------------------------------------------
 -- singular fields that hold bytes or a message
+abbrev pub isSpan : Form → Bool
+isSpan Int64 = false
+isSpan Int32 = false
+isSpan (Named e) = false
+isSpan Flag = false
+isSpan Bytes = true
+isSpan Opaque = true
+isSpan Float = false
+isSpan (Nested k) = true
+
 abbrev pub isPart : Rule → Bool
 isPart Unlisted = false
 isPart Refused = false
-isPart (Single Int64) = false
-isPart (Single Int32) = false
-isPart (Single (Named e)) = false
-isPart (Single Flag) = false
-isPart (Single Bytes) = true
-isPart (Single Opaque) = true
-isPart (Single Float) = false
-isPart (Single (Nested k)) = true
+isPart (Once f) = isSpan f
+isPart (Single f) = isSpan f
 isPart (Repeated f) = false
 
 module _ (k : Kind) (m : List ℕ) (t : Slots) (y : Level k m t) (n : ℕ) where
-  slot-raw : (f : Form) (q : ruleOf k n ≡ Single f) → ((v : Value) (c : Content) → decode f v ≡ some c → (b : List ℕ) × (c ≡ cRaw b)) → SlotInside m t n
+  slot-raw : (f : Form) (q : Singular f (ruleOf k n)) → ((v : Value) (c : Content) → decode f v ≡ some c → (b : List ℕ) × (c ≡ cRaw b)) → SlotInside m t n
   slot-raw f q g e =
       let c = present k m t y n f q e in
       let d = decoded k m t y n f q (c .1) in
       let x = g (d .0) (c .0) (d .1) in
       shown k m t y n f q (c .1) (x .1) .1
 
-  slot-message : (k' : Kind) (q : ruleOf k n ≡ Single (Nested k')) → SlotInside m t n
+  slot-message : (k' : Kind) (q : Singular (Nested k') (ruleOf k n)) → SlotInside m t n
   slot-message k' q e =
       let c = present k m t y n (Nested k') q e in
       let d = decoded k m t y n (Nested k') q (c .1) in
@@ -260,17 +305,21 @@ module _ (k : Kind) (m : List ℕ) (t : Slots) (y : Level k m t) (n : ℕ) where
       no : {A : Type 0} → _≡_ {A = Bool} false true → A
       no e = let z : _≡_ {A = ℕ} 0 1 = cc in absurd (omega arith)
 
+      spans : (f : Form) → Singular f (ruleOf k n) → isSpan f ≡ true → SlotInside m t n
+      spans Int64 q e = no e
+      spans Int32 q e = no e
+      spans (Named x) q e = no e
+      spans Flag q e = no e
+      spans Bytes q e = slot-raw Bytes q raw-of
+      spans Opaque q e = slot-raw Opaque q opaque-of
+      spans Float q e = no e
+      spans (Nested k') q e = slot-message k' q
+
       go : (r : Rule) → ruleOf k n ≡ r → isPart r ≡ true → SlotInside m t n
       go Unlisted q e = no e
       go Refused q e = no e
-      go (Single Int64) q e = no e
-      go (Single Int32) q e = no e
-      go (Single (Named x)) q e = no e
-      go (Single Flag) q e = no e
-      go (Single Bytes) q e = slot-raw Bytes q raw-of
-      go (Single Opaque) q e = slot-raw Opaque q opaque-of
-      go (Single Float) q e = no e
-      go (Single (Nested k')) q e = slot-message k' q
+      go (Once f) q e = spans f (subst (λ (r : Rule). Singular f r) (sym q) refl) e
+      go (Single f) q e = spans f (subst (λ (r : Rule). Singular f r) (sym q) refl) e
       go (Repeated f) q e = no e
 
 -- what part_of and num_of ask
@@ -282,7 +331,7 @@ part-ready k s p t y i n l e = (l, level-sized k (bytesAt s p) t y, i, slot-insi
 pub sub-view : {A : Type 0} {k : Kind} {s : List ℕ} {r : Part} {o : Option Tree} (f : Tree → A) (x : A) → Sub k s r o → x ≡ f (treeOf k (bytesAt s r)) → guard (r .has) x ≡ mapO f o
 sub-view {o = o} f x u e = ap (λ b. guard b x) (u .here) ∙ ap (guard (isSome o)) (e ∙ ap f (u .tree)) ∙ go o
   where
-    go : (o : Option Tree) → guard (isSome o) (f (orDone o)) ≡ mapO f o
+    go : (o : Option Tree) → guard (isSome o) (f (treeIn o)) ≡ mapO f o
     go none = refl
     go (some t) = refl
 
@@ -290,3 +339,7 @@ sub-view {o = o} f x u e = ap (λ b. guard b x) (u .here) ∙ ap (guard (isSome 
 pub whole-bytes : (s : List ℕ) → bytesAt s (record { has = true; start = 0; len = length s }) ≡ s
 unfolding bytesAt
 whole-bytes s = take-length s
+
+-- where there is none, the empty part stands for it
+pub no-sub : (k : Kind) (s : List ℕ) → Sub k s noPart none
+no-sub k s = sub-of k s noPart [] done none (nil-at s) (nil-reads k) refl refl

@@ -1,3 +1,4 @@
 pub mod Views
 pub mod LevelLaws
 pub mod Slices
+pub mod LaterLaws

@@ -1,5 +1,8 @@
 // Numbers and parts of a message, out of the slots of a level.
+ghost use mathlib.Core.Path.{_≡_};
 ghost use Prim.Native.Nat.{_<_};
+ghost use Rattle.wire.specs.Reader.{choose};
+ghost use Rattle.field_rules.specs.Judged.{bit};
 ghost use Rattle.tree.specs.Tree.{level};
 ghost use Rattle.fields.specs.Slots.{Sized, Tells};
 ghost use Rattle.lookups.specs.Views.{bytesAt, Inside, SlotInside, NumIs, PartIs};
@@ -65,5 +68,48 @@ pub fn part_of(s: &[u8], p: Part, t: Slots, n: usize) -> Part
         has: false,
         start: 0,
         len: 0,
+    }
+}
+
+// Whether a singular field of a level was sent twice.
+pub fn sent_twice(t: Slots) -> bool
+    ensures { λ r. ⌜ r ≡ bit (t .has) 0 ⌝ }
+{
+    marked(t.has, 0)
+}
+
+// The later number, or where there is none the earlier.
+pub fn later_num(before: Num, after: Num) -> Num
+    ensures { λ r. ⌜ r ≡ choose (after .has) after before ⌝ }
+{
+    let has = after.has;
+    if has {
+        return Num {
+            has: true,
+            value: after.value,
+        };
+    }
+    Num {
+        has: before.has,
+        value: before.value,
+    }
+}
+
+// The later part, or where there is none the earlier.
+pub fn later_part(before: Part, after: Part) -> Part
+    ensures { λ r. ⌜ r ≡ choose (after .has) after before ⌝ }
+{
+    let has = after.has;
+    if has {
+        return Part {
+            has: true,
+            start: after.start,
+            len: after.len,
+        };
+    }
+    Part {
+        has: before.has,
+        start: before.start,
+        len: before.len,
     }
 }

@@ -4,16 +4,20 @@ ghost use mathlib.Core.List.{List};
 ghost use Prim.Native.Nat.{ℕ};
 ghost use mathlib.Core.Bool.{false};
 ghost use Rattle.wire.specs.Reader.{choose};
-ghost use Rattle.tree.specs.Tree.{intAt, rawAt};
-ghost use Rattle.lookups.specs.Views.{Inside, Lies, Reads, bytesAt, numView, partView, treeOf};
+ghost use Rattle.tree.specs.Tree.{done, subAt, treeIn};
+ghost use Rattle.lookups.specs.Views.{Inside, Merges, Only, Reads, bytesAt, numView, treeOf};
 ghost use Rattle.protocol.specs.Reading.{isOne, readMessage};
-ghost use Rattle.messages.specs.Messages.{SealedLies, sealedView};
+ghost use Rattle.messages.specs.Messages.{AuthIs, SealedLies, sealedView};
 use fields::nested::reads;
 use lookups::parts::Num;
 use lookups::parts::Part;
+use lookups::parts::later_num;
+use lookups::parts::later_part;
 use lookups::parts::num_of;
 use lookups::parts::open_at;
 use lookups::parts::part_of;
+use lookups::parts::sent_twice;
+use repeated_fields::next_part;
 use tree::Kind;
 
 pub struct Auth {
@@ -52,15 +56,74 @@ fn all_of(a: bool, b: bool, c: bool, d: bool) -> bool
     false
 }
 
+fn no_auth() -> Auth
+    ensures { λ r. ⌜ ((s : List ℕ) → AuthIs s done r) ⌝ }
+{
+    Auth {
+        identity: Num {
+            has: false,
+            value: 0,
+        },
+        hmac: Part {
+            has: false,
+            start: 0,
+            len: 0,
+        },
+    }
+}
+
 fn read_auth(s: &[u8], p: Part) -> Auth
     requires { ⌜ Inside (now s) p × Reads (Kind.HmacAuth) (bytesAt (now s) p) ⌝ }
-    ensures { λ r. ⌜ (numView (r .identity) ≡ intAt 1 (treeOf (Kind.HmacAuth) (bytesAt (now (s .entry)) p))) × (partView (now (s .entry)) (r .hmac) ≡ rawAt 2 (treeOf (Kind.HmacAuth) (bytesAt (now (s .entry)) p))) × Lies (now (s .entry)) (r .hmac) ⌝ }
+    ensures { λ r. ⌜ AuthIs (now (s .entry)) (treeOf (Kind.HmacAuth) (bytesAt (now (s .entry)) p)) r ⌝ }
 {
     let t = open_at(s, p, Kind::HmacAuth);
     Auth {
         identity: num_of(t, 1),
         hmac: part_of(s, p, t, 2),
     }
+}
+
+fn merge_auths(before: Auth, after: Auth) -> Auth
+    ensures { λ r. ⌜ ((s : List ℕ) → Merges (AuthIs s) before after r) ⌝ }
+{
+    Auth {
+        identity: later_num(before.identity, after.identity),
+        hmac: later_part(before.hmac, after.hmac),
+    }
+}
+
+// Every HMACauth of the message in the part p.
+fn read_auths(s: &[u8], p: Part) -> Auth
+    requires { ⌜ Inside (now s) p × Reads (Kind.Message) (bytesAt (now s) p) ⌝ }
+    ensures { λ r. ⌜ AuthIs (now (s .entry)) (treeIn (subAt 5 (treeOf (Kind.Message) (bytesAt (now (s .entry)) p)))) r ⌝ }
+{
+    let mut left = p;
+    let mut a = no_auth();
+    while 0 < left.len {
+        let x = next_part(s, left, 5);
+        let has = x.part.has;
+        if !has {
+            return a;
+        }
+        a = merge_auths(a, read_auth(s, x.part));
+        left = x.rest;
+    }
+    a
+}
+
+// The same, where a is the last one, and the only one unless a singular field of the message was sent twice.
+fn auth_in(s: &[u8], p: Part, a: Part, twice: bool) -> Auth
+    requires { ⌜ Inside (now s) p × Reads (Kind.Message) (bytesAt (now s) p) × Only (Kind.HmacAuth) (now s) a twice (subAt 5 (treeOf (Kind.Message) (bytesAt (now s) p))) ⌝ }
+    ensures { λ r. ⌜ AuthIs (now (s .entry)) (treeIn (subAt 5 (treeOf (Kind.Message) (bytesAt (now (s .entry)) p)))) r ⌝ }
+{
+    let has = a.has;
+    if !has {
+        return no_auth();
+    }
+    if twice {
+        return read_auths(s, p);
+    }
+    read_auth(s, a)
 }
 
 fn read_sealed(s: &[u8], p: Part) -> Sealed
@@ -71,7 +134,7 @@ fn read_sealed(s: &[u8], p: Part) -> Sealed
     let auth_type = num_of(t, 4);
     let a = part_of(s, p, t, 5);
     let command = part_of(s, p, t, 7);
-    let auth = read_auth(s, a);
+    let auth = auth_in(s, p, a, sent_twice(t));
     let identity = auth.identity;
     let hmac = auth.hmac;
     let ok = all_of(is_one(auth_type), a.has, identity.has, command.has);

@@ -7,10 +7,13 @@ use mathlib.Core.Option.{Option, some}
 use lib.ListN.{length, length-append}
 use Rattle.wire.specs.Wire.{varintIn, vint, vlen, field, valueOf, readField, fieldsIn, fieldsOf, Framed}
 use Rattle.tree.specs.Tree.{mapO, thenO, Tree, done, int, raw, sub, items, level, openAll, listedIn, listed}
-use Rattle.tree.specs.PutIn.{Nothing, PutIn}
+use Rattle.tree.specs.Rules.{ruleOf}
+use Rattle.tree.specs.PutIn.{Has, Holds, Replaces, Nothing, PutIn}
 use Rattle.tree.specs.PutInLaws.{put-in-same}
+use Rattle.tree.specs.declared.Kind.{Kind}
 use Rattle.tree.specs.declared.Kind.the-variants.{Message, HmacAuth, Command, Header, Body, KeyValue, Security}
-use Rattle.encoding.specs.Encode.{intField, lenField, encode, Fits, ends}
+use Rattle.tree.specs.declared.Form.the-variants.{Bytes}
+use Rattle.encoding.specs.Encode.{intField, lenField, encode, FieldNumber, Fits, ends}
 use Rattle.encoding.specs.Cost.{encode-cost, int-length, len-length}
 use Rattle.encoding.specs.FitsLaws.{number, fit-int, fit-raw, fit-sub}
 use Rattle.encoding.specs.Back.{int-framed, len-framed, read-back}
@@ -21,7 +24,7 @@ use Rattle.access.specs.Readback.{table-back, host-good}
 use Rattle.protocol.specs.Frame as framing
 use Rattle.protocol.specs.Frame.{frame}
 use Rattle.protocol.specs.State.{State}
-use Rattle.protocol.specs.Reading.{Envelope, envelope, envelopeOf, readMessage, read, undecodable, decoded}
+use Rattle.protocol.specs.Reading.{securityOnce, decodes, Envelope, envelope, envelopeOf, readMessage, read, undecodable, decoded}
 use Rattle.protocol.specs.Answer.{refused, answered, reading}
 use Rattle.protocol.specs.Demand.{Free, Edited, SameBut, Signed}
 use Rattle.protocol.specs.Proved.{reads}
@@ -38,6 +41,34 @@ added = 0x78 ∷ 0x01 ∷ []
 added-framed : Framed (field 15 (vint 1)) added
 unfolding readField valueOf varintIn
 added-framed = record { whole = refl }
+
+-- ---- a message that is read as the commandBytes b of identity 1 with the box's own hmac
+
+module _ (key b m : List ℕ) (is-read : readMessage m ≡ some (envelope 1 (hmac key b) b)) where
+  envelope-right : {i : ℕ} {sig c : List ℕ} → _≡_ {A = Option Envelope} (some (envelope 1 (hmac key b) b)) (some (envelope i sig c)) → sig ≡ hmac key c
+  envelope-right {i} {sig} {c} e = let p : sig ≡ hmac key b = cc in let q : b ≡ c = cc in p ∙ ap (hmac key) q
+
+  signed-right : Signed box key m
+  signed-right i sig c e = envelope-right (sym is-read ∙ e)
+
+  -- a device record as Format makes it knows the identity
+  known : (s : State) → 1 ≤ length key → length key ≤ 64 → s .device ≡ tableBytes (hostTable key) → reading box s m ≡ decoded 1 key (decodes b)
+  unfolding placeOf findFrom aclOf
+  known s least most e =
+      reads hmac (λ i. mapO (λ a. a .key) (the.aclOf s i)) m is-read
+      (ap (λ t. mapO (λ a. a .key) (the.aclAt s (placeOf t 1))) (ap tableOf e ∙ table-back (hostTable key) (host-good key least most))
+      ∙ ap (λ t. some (aclOf t 0 .key)) (ap tableOf e ∙ table-back (hostTable key) (host-good key least most))) refl
+
+inner : {i j : ℕ} {x y c d : List ℕ} → _≡_ {A = Option Envelope} (some (envelope i x c)) (some (envelope j y d)) → c ≡ d
+inner e = cc
+
+-- fields put around the command and into it
+edited-by : (key b b' m m' : List ℕ) {c : ℕ} → readMessage m ≡ some (envelope 1 (hmac key b) b) → readMessage m' ≡ some (envelope 1 (hmac key b') b')
+    → PutIn Free Message 0 m m' → PutIn Nothing Command c b b' → Edited c m m'
+edited-by key b b' m m' {c} r r' a p =
+    record { around = a; within = λ i i' sig sig' d d' e e'. subst₂ (PutIn Nothing Command c) (inner (sym r ∙ e)) (inner (sym r' ∙ e')) p }
+
+-- ---- the message
 
 -- an HMACauth of identity 1; the message with it and the commandBytes b
 abbrev pub auth : List ℕ → List ℕ → List ℕ
@@ -92,39 +123,24 @@ module _ (key b : List ℕ) (short : length b ≤ 1024) where
   unfolding readMessage
   fuller-read = ap (λ o. thenO o (λ t. envelopeOf t)) (put-in-same fuller-put ∙ read-back message-fits)
 
-  signed-right : {i : ℕ} {sig c : List ℕ} → _≡_ {A = Option Envelope} (some (envelope 1 (hmac key b) b)) (some (envelope i sig c)) → sig ≡ hmac key c
-  signed-right {i} {sig} {c} e = let p : sig ≡ hmac key b = cc in let q : b ≡ c = cc in p ∙ ap (hmac key) q
-
   -- the hmac that counts is right for the commandBytes that count
   pub signed : Signed box key (fuller key b)
-  signed i sig c e = signed-right (sym fuller-read ∙ e)
-
-  -- a device record as Format makes it knows the identity
-  known : (s : State) → 1 ≤ length key → length key ≤ 64 → s .device ≡ tableBytes (hostTable key) → reading box s (message key b) ≡ decoded 1 key (listed Command b)
-  unfolding placeOf findFrom aclOf
-  known s least most e =
-      reads hmac (λ i. mapO (λ a. a .key) (the.aclOf s i)) (message key b) message-read
-      (ap (λ t. mapO (λ a. a .key) (the.aclAt s (placeOf t 1))) (ap tableOf e ∙ table-back (hostTable key) (host-good key least most))
-      ∙ ap (λ t. some (aclOf t 0 .key)) (ap tableOf e ∙ table-back (hostTable key) (host-good key least most))) refl
-
-inner : {i j : ℕ} {x y c d : List ℕ} → _≡_ {A = Option Envelope} (some (envelope i x c)) (some (envelope j y d)) → c ≡ d
-inner e = cc
+  signed = signed-right key b (fuller key b) fuller-read
 
 -- fields put into the command, the HMACauth and the Message, and signed again
 pub edited : (key b b' : List ℕ) {c : ℕ} → length b ≤ 1024 → length b' ≤ 1024 → PutIn Nothing Command c b b' → Edited c (message key b) (fuller key b')
 unfolding encode
-edited key b b' {c} h h' p = record {
-  around =
-      PutIn.put 15 (vint 1) added-framed refl
-      (PutIn.keep (field 4 (vint 1)) (int-framed 4 1 (number refl) (omega arith)) (int-framed 4 1 (number refl) (omega arith))
-      (PutIn.inside 5 HmacAuth (auth key b) (added ++ auth key b') (len-framed 5 (auth key b) (number refl) (omega (arith, auth-length key b h))) (auth-framed key b' h') refl
-      (PutIn.put 15 (vint 1) added-framed refl
-      (PutIn.keep (field 1 (vint 1)) (int-framed 1 1 (number refl) (omega arith)) (int-framed 1 1 (number refl) (omega arith))
-      (PutIn.replaced 2 (hmac key b) (hmac key b') (len-framed 2 (hmac key b) (number refl) (omega (arith, hmac-length key b))) (len-framed 2 (hmac key b') (number refl) (omega (arith, hmac-length key b'))) refl
-      (Free.hmac (hmac key b) (hmac key b')) (PutIn.same HmacAuth []))))
-      (PutIn.replaced 7 b b' (len-framed 7 b (number refl) (omega arith)) (len-framed 7 b' (number refl) (omega arith)) refl (Free.command b b') (PutIn.same Message []))));
-  within = λ i i' sig sig' d d' e e'. subst₂ (PutIn Nothing Command c) (inner (sym (message-read key b h) ∙ e)) (inner (sym (fuller-read key b' h') ∙ e')) p;
-}
+edited key b b' h h' p =
+    edited-by key b b' (message key b) (fuller key b') (message-read key b h) (fuller-read key b' h')
+    (PutIn.put 15 (vint 1) added-framed refl
+    (PutIn.keep (field 4 (vint 1)) (int-framed 4 1 (number refl) (omega arith)) (int-framed 4 1 (number refl) (omega arith))
+    (PutIn.inside 5 HmacAuth (auth key b) (added ++ auth key b') (len-framed 5 (auth key b) (number refl) (omega (arith, auth-length key b h))) (auth-framed key b' h') refl
+    (PutIn.put 15 (vint 1) added-framed refl
+    (PutIn.keep (field 1 (vint 1)) (int-framed 1 1 (number refl) (omega arith)) (int-framed 1 1 (number refl) (omega arith))
+    (PutIn.replaced 2 (hmac key b) (hmac key b') (len-framed 2 (hmac key b) (number refl) (omega (arith, hmac-length key b))) (len-framed 2 (hmac key b') (number refl) (omega (arith, hmac-length key b'))) refl
+    (Free.hmac (hmac key b) (hmac key b')) (PutIn.same HmacAuth []))))
+    (PutIn.replaced 7 b b' (len-framed 7 b (number refl) (omega arith)) (len-framed 7 b' (number refl) (omega arith)) refl (Free.command b b') (PutIn.same Message [])))))
+    p
 
 -- ---- a PUT of the key "A", with a field put into the Command, the Header, the Body and the KeyValue too
 
@@ -148,8 +164,8 @@ newer = added ++ (hold 1 (added ++ header 4) ++ (hold 2 (added ++ hold 1 (added 
 abbrev pub tree : Tree
 tree = sub 1 (int 3 1 (int 4 2 (int 7 4 done))) (sub 2 (sub 1 (raw 3 (0x41 ∷ []) done) done) done)
 
-says-plain : listed Command plain ≡ some tree
-unfolding listed listedIn level openAll items fieldsOf fieldsIn readField valueOf varintIn
+says-plain : decodes plain ≡ some tree
+unfolding securityOnce listed listedIn level openAll items fieldsOf fieldsIn readField valueOf varintIn
 says-plain = refl
 
 pub put-newer : PutIn Nothing Command 0 plain newer
@@ -163,6 +179,153 @@ put-newer =
     (PutIn.inside {m = []} {m' = []} {x = hold 1 key-A} {x' = hold 1 (added ++ key-A)} 1 KeyValue key-A (added ++ key-A) (record { whole = refl }) (record { whole = refl }) refl
     (PutIn.put 15 (vint 1) added-framed refl (PutIn.same KeyValue key-A)) (PutIn.same Body [])))
     (PutIn.same Command [])))
+
+-- ---- document 02, CR 5: "Demand 3 stays, also for a field put between the two occurrences": a PUT whose header and body are sent twice
+
+-- connectionID 1, sequence 1; then sequence 2, which counts, and the messageType
+abbrev earlier : List ℕ
+earlier = 0x18 ∷ 0x01 ∷ 0x20 ∷ 0x01 ∷ []
+
+abbrev later : List ℕ
+later = 0x20 ∷ 0x02 ∷ 0x38 ∷ 0x04 ∷ []
+
+-- force, in the keyValue of a second body
+abbrev force : List ℕ
+force = 0x40 ∷ 0x01 ∷ []
+
+abbrev pub plain-twice : List ℕ
+plain-twice = hold 1 earlier ++ (hold 1 later ++ (hold 2 (hold 1 key-A) ++ hold 2 (hold 1 force)))
+
+-- a field between the two headers and between the two bodies, and one in each header, body and keyValue
+abbrev pub newer-twice : List ℕ
+newer-twice =
+    hold 1 (added ++ earlier) ++ (added ++ (hold 1 (added ++ later) ++ (hold 2 (added ++ hold 1 (added ++ key-A)) ++ (added ++ hold 2 (added ++ hold 1 (added ++ force))))))
+
+abbrev pub tree-twice : Tree
+tree-twice =
+    sub 1 (int 3 1 (int 4 1 done)) (sub 1 (int 4 2 (int 7 4 done)) (sub 2 (sub 1 (raw 3 (0x41 ∷ []) done) done) (sub 2 (sub 1 (int 8 1 done) done) done)))
+
+says-twice : decodes plain-twice ≡ some tree-twice
+unfolding securityOnce listed listedIn level openAll items fieldsOf fieldsIn readField valueOf varintIn
+says-twice = refl
+
+-- a field put into a header; into a body and its keyValue
+header-put : (b : List ℕ) → PutIn Nothing Header 0 b (added ++ b)
+header-put b = PutIn.put 15 (vint 1) added-framed refl (PutIn.same Header b)
+
+body-put : (b : List ℕ) → Holds 1 b (hold 1 b) → Holds 1 (added ++ b) (hold 1 (added ++ b)) → PutIn Nothing Body 0 (hold 1 b ++ []) (added ++ (hold 1 (added ++ b) ++ []))
+body-put b h h' =
+    PutIn.put 15 (vint 1) added-framed refl
+    (PutIn.inside 1 KeyValue b (added ++ b) h h' refl (PutIn.put 15 (vint 1) added-framed refl (PutIn.same KeyValue b)) (PutIn.same Body []))
+
+pub put-twice : PutIn Nothing Command 0 plain-twice newer-twice
+unfolding readField valueOf varintIn
+put-twice =
+    PutIn.inside {x = hold 1 earlier} {x' = hold 1 (added ++ earlier)} 1 Header earlier (added ++ earlier) (record { whole = refl }) (record { whole = refl }) refl (header-put earlier)
+    (PutIn.put 15 (vint 1) added-framed refl
+    (PutIn.inside {x = hold 1 later} {x' = hold 1 (added ++ later)} 1 Header later (added ++ later) (record { whole = refl }) (record { whole = refl }) refl (header-put later)
+    (PutIn.inside {x = hold 2 (hold 1 key-A)} {x' = hold 2 (added ++ hold 1 (added ++ key-A))} 2 Body (hold 1 key-A) (added ++ hold 1 (added ++ key-A)) (record { whole = refl }) (record { whole = refl }) refl
+    (body-put key-A (record { whole = refl }) (record { whole = refl }))
+    (PutIn.put 15 (vint 1) added-framed refl
+    (PutIn.inside {m = []} {m' = []} {x = hold 2 (hold 1 force)} {x' = hold 2 (added ++ hold 1 (added ++ force))} 2 Body (hold 1 force) (added ++ hold 1 (added ++ force)) (record { whole = refl }) (record { whole = refl }) refl
+    (body-put force (record { whole = refl }) (record { whole = refl })) (PutIn.same Command []))))))
+
+-- ---- and a message whose HMACauth and commandBytes are sent twice: the identity in one and the hmac in the other; the bytes a, which do not count, and b
+
+abbrev pub twiceTree : List ℕ → List ℕ → List ℕ → Tree
+twiceTree key a b = int 4 1 (sub 5 (int 1 1 done) (sub 5 (raw 2 (hmac key b) done) (raw 7 a (raw 7 b done))))
+
+abbrev pub message-twice : List ℕ → List ℕ → List ℕ → List ℕ
+message-twice key a b = encode (twiceTree key a b)
+
+-- the identity, the hmac
+abbrev first-auth : List ℕ
+first-auth = encode (int 1 1 done)
+
+abbrev second-auth : List ℕ → List ℕ → List ℕ
+second-auth key b = encode (raw 2 (hmac key b) done)
+
+-- a field between the two HMACauths and between the commandBytes, and one in each HMACauth
+abbrev pub fuller-twice : List ℕ → List ℕ → List ℕ → List ℕ
+fuller-twice key a b =
+    intField 4 1 ++ (lenField 5 (added ++ first-auth) ++ (added ++ (lenField 5 (added ++ second-auth key b) ++ (lenField 7 a ++ (added ++ (lenField 7 b ++ []))))))
+
+first-fits : Fits HmacAuth (int 1 1 done)
+first-fits = fit-int (number refl) (omega arith) refl ends
+
+first-length : length first-auth ≤ 15
+first-length = omega (arith, encode-cost first-fits)
+
+second-fits : (key b : List ℕ) → Fits HmacAuth (raw 2 (hmac key b) done)
+second-fits key b = fit-raw (number refl) (omega (arith, hmac-length key b)) refl ends
+
+second-length : (key b : List ℕ) → length (second-auth key b) ≤ 35
+second-length key b = omega (arith, encode-cost (second-fits key b), hmac-length key b)
+
+module _ (key a b : List ℕ) (limit : length a ≤ 1024) (short : length b ≤ 1024) where
+  twice-fits : Fits Message (twiceTree key a b)
+  twice-fits =
+      fit-int (number refl) (omega arith) refl
+      (fit-sub HmacAuth (number refl) (omega arith) refl first-fits
+      (fit-sub HmacAuth (number refl) (omega (arith, hmac-length key b)) refl (second-fits key b)
+      (fit-raw (number refl) (omega arith) refl (fit-raw (number refl) (omega arith) refl ends))))
+
+  twice-length : length (message-twice key a b) ≤ 2200
+  twice-length = omega (arith, encode-cost twice-fits, hmac-length key b)
+
+  twice-read : readMessage (message-twice key a b) ≡ some (envelope 1 (hmac key b) b)
+  unfolding readMessage
+  twice-read = ap (λ o. thenO o (λ t. envelopeOf t)) (read-back twice-fits)
+
+-- a field of the number n stays with its bytes, or has b' for b
+abbrev Passes : Replaces → Kind → ℕ → List ℕ → List ℕ → Type 0
+Passes R k n b b' = (m m' : List ℕ) → PutIn R k 0 m m' → PutIn R k 0 (lenField n b ++ m) (lenField n b' ++ m')
+
+stays : (R : Replaces) (k : Kind) (n : ℕ) (b : List ℕ) → FieldNumber n → length b ≤ 1024 → Passes R k n b b
+stays R k n b i l m m' p = PutIn.keep (field n (vlen b)) (len-framed n b i (omega arith)) (len-framed n b i (omega arith)) p
+
+gives : (R : Replaces) (k : Kind) (n : ℕ) (b b' : List ℕ) → FieldNumber n → length b ≤ 1024 → length b' ≤ 1024 → Has Bytes (ruleOf k n) → R k n b b' → Passes R k n b b'
+gives R k n b b' i l l' g w m m' p = PutIn.replaced n b b' (len-framed n b i (omega arith)) (len-framed n b' i (omega arith)) g w p
+
+twice-around : (R : Replaces) (key a a' b b' : List ℕ) → Passes R HmacAuth 2 (hmac key b) (hmac key b') → Passes R Message 7 a a' → Passes R Message 7 b b'
+    → PutIn R Message 0 (message-twice key a b) (fuller-twice key a' b')
+unfolding encode
+twice-around R key a a' b b' h p q =
+    PutIn.keep (field 4 (vint 1)) (int-framed 4 1 (number refl) (omega arith)) (int-framed 4 1 (number refl) (omega arith))
+    (PutIn.inside 5 HmacAuth first-auth (added ++ first-auth) (len-framed 5 first-auth (number refl) (omega (arith, first-length))) (len-framed 5 (added ++ first-auth) (number refl) (omega (arith, first-length))) refl
+    (PutIn.put 15 (vint 1) added-framed refl (PutIn.same HmacAuth first-auth))
+    (PutIn.put 15 (vint 1) added-framed refl
+    (PutIn.inside 5 HmacAuth (second-auth key b) (added ++ second-auth key b') (len-framed 5 (second-auth key b) (number refl) (omega (arith, second-length key b))) (len-framed 5 (added ++ second-auth key b') (number refl) (omega (arith, second-length key b'))) refl
+    (PutIn.put 15 (vint 1) added-framed refl (h [] [] (PutIn.same HmacAuth [])))
+    (p (lenField 7 b ++ []) (added ++ (lenField 7 b' ++ [])) (PutIn.put 15 (vint 1) added-framed refl (q [] [] (PutIn.same Message [])))))))
+
+module _ (key a b : List ℕ) (limit : length a ≤ 1024) (short : length b ≤ 1024) where
+  fuller-twice-read : readMessage (fuller-twice key a b) ≡ some (envelope 1 (hmac key b) b)
+  unfolding readMessage
+  fuller-twice-read =
+      ap (λ o. thenO o (λ t. envelopeOf t))
+      (put-in-same (twice-around Nothing key a a b b (stays Nothing HmacAuth 2 (hmac key b) (number refl) (omega (arith, hmac-length key b))) (stays Nothing Message 7 a (number refl) limit) (stays Nothing Message 7 b (number refl) short))
+      ∙ read-back (twice-fits key a b limit short))
+
+  fuller-twice-length : length (fuller-twice key a b) ≤ 2200
+  fuller-twice-length =
+      let i = length-append (lenField 5 (added ++ second-auth key b)) (lenField 7 a ++ (added ++ (lenField 7 b ++ []))) in
+      let j = length-append (lenField 7 a) (added ++ (lenField 7 b ++ [])) in
+      let l = length-append (lenField 7 b) [] in
+      let rest = added ++ (lenField 5 (added ++ second-auth key b) ++ (lenField 7 a ++ (added ++ (lenField 7 b ++ [])))) in
+      let m = length-append (intField 4 1) (lenField 5 (added ++ first-auth) ++ rest) in
+      let n = length-append (lenField 5 (added ++ first-auth)) rest in
+      omega (arith, i, j, l, m, n, first-length, second-length key b, int-length 4 1 (omega arith) (omega arith), len-length 5 (added ++ first-auth) (omega arith) (omega (arith, first-length)), len-length 5 (added ++ second-auth key b) (omega arith) (omega (arith, second-length key b)), len-length 7 a (omega arith) (omega arith), len-length 7 b (omega arith) (omega arith))
+
+-- any other commandBytes where they do not count, and fields put in where they do
+pub edited-twice : (key a a' b b' : List ℕ) {c : ℕ} → length a ≤ 1024 → length a' ≤ 1024 → length b ≤ 1024 → length b' ≤ 1024 → PutIn Nothing Command c b b'
+    → Edited c (message-twice key a b) (fuller-twice key a' b')
+edited-twice key a a' b b' h h' g g' p =
+    edited-by key b b' (message-twice key a b) (fuller-twice key a' b') (twice-read key a b h g) (fuller-twice-read key a' b' h' g')
+    (twice-around Free key a a' b b'
+    (gives Free HmacAuth 2 (hmac key b) (hmac key b') (number refl) (omega (arith, hmac-length key b)) (omega (arith, hmac-length key b')) refl (Free.hmac (hmac key b) (hmac key b')))
+    (gives Free Message 7 a a' (number refl) h h' refl (Free.command a a')) (gives Free Message 7 b b' (number refl) g g' refl (Free.command b b')))
+    p
 
 -- ---- a SECURITY, with a field put into the Security
 
@@ -178,8 +341,8 @@ stranger = hold 1 (header 26) ++ hold 2 (hold 7 (added ++ acls))
 abbrev pub security-tree : Tree
 security-tree = sub 1 (int 3 1 (int 4 2 (int 7 26 done))) (sub 2 (sub 7 (sub 2 (int 1 1 (sub 4 (int 3 0 done) done)) done) done) done)
 
-says-securing : listed Command securing ≡ some security-tree
-unfolding listed listedIn level openAll items fieldsOf fieldsIn readField valueOf varintIn
+says-securing : decodes securing ≡ some security-tree
+unfolding securityOnce listed listedIn level openAll items fieldsOf fieldsIn readField valueOf varintIn
 says-securing = refl
 
 pub put-stranger : PutIn Nothing Command 1 securing stranger
@@ -205,7 +368,7 @@ module _ (s : State) (key : List ℕ) (least : 1 ≤ length key) (most : length 
       × SameBut (length (frame (message key plain) v)) (length (frame (fuller key newer) v)) (answers s out (frame (message key plain) v ++ rest)) (answers s out (frame (fuller key newer) v ++ rest'))
   same-shown =
       same s out (message key plain) (fuller key newer) v rest rest' 1 key tree
-      (known key plain (omega arith) s least most formatted ∙ ap (decoded 1 key) says-plain) (in-limits plain (omega arith))
+      (known key plain (message key plain) (message-read key plain (omega arith)) s least most formatted ∙ ap (decoded 1 key) says-plain) (in-limits plain (omega arith))
       (edited key plain newer (omega arith) (omega arith) put-newer) (signed key newer (omega arith)) (fuller-limits newer (omega arith))
 
   pub strange-shown : ((n : ℕ) → answers s out (frame (fuller key stranger) v ++ rest') ≡ refused n → ⊥)
@@ -213,5 +376,24 @@ module _ (s : State) (key : List ℕ) (least : 1 ≤ length key) (most : length 
       × (answers s out (frame (fuller key stranger) v ++ rest') ≡ answered (signedReply 1 key (invalidTree (s .connection .number)) []) s (length (frame (fuller key stranger) v)))
   strange-shown h =
       strange-told s out (message key securing) (fuller key stranger) v rest' 1 key security-tree 0
-      (known key securing (omega arith) s least most formatted ∙ ap (decoded 1 key) says-securing)
+      (known key securing (message key securing) (message-read key securing (omega arith)) s least most formatted ∙ ap (decoded 1 key) says-securing)
       (edited key securing stranger (omega arith) (omega arith) put-stranger) (signed key stranger (omega arith)) (fuller-limits stranger (omega arith)) h
+
+  -- header and body sent twice
+  pub command-twice-shown : (reading box s (fuller key newer-twice) ≡ read 1 key tree-twice)
+      × SameBut (length (frame (message key plain-twice) v)) (length (frame (fuller key newer-twice) v)) (answers s out (frame (message key plain-twice) v ++ rest)) (answers s out (frame (fuller key newer-twice) v ++ rest'))
+  command-twice-shown =
+      same s out (message key plain-twice) (fuller key newer-twice) v rest rest' 1 key tree-twice
+      (known key plain-twice (message key plain-twice) (message-read key plain-twice (omega arith)) s least most formatted ∙ ap (decoded 1 key) says-twice) (in-limits plain-twice (omega arith))
+      (edited key plain-twice newer-twice (omega arith) (omega arith) put-twice) (signed key newer-twice (omega arith)) (fuller-limits newer-twice (omega arith))
+
+  -- HMACauth and commandBytes sent twice, any bytes a' for the commandBytes a that do not count
+  pub message-twice-shown : (a a' : List ℕ) → length a ≤ 1024 → length a' ≤ 1024 → (reading box s (fuller-twice key a' newer) ≡ read 1 key tree)
+      × SameBut (length (frame (message-twice key a plain) v)) (length (frame (fuller-twice key a' newer) v)) (answers s out (frame (message-twice key a plain) v ++ rest)) (answers s out (frame (fuller-twice key a' newer) v ++ rest'))
+  message-twice-shown a a' h h' =
+      same s out (message-twice key a plain) (fuller-twice key a' newer) v rest rest' 1 key tree
+      (known key plain (message-twice key a plain) (twice-read key a plain h (omega arith)) s least most formatted ∙ ap (decoded 1 key) says-plain)
+      (record { message = omega (arith, twice-length key a plain h (omega arith)); value = limit })
+      (edited-twice key a a' plain newer h h' (omega arith) (omega arith) put-newer)
+      (signed-right key newer (fuller-twice key a' newer) (fuller-twice-read key a' newer h' (omega arith)))
+      (record { message = omega (arith, fuller-twice-length key a' newer h' (omega arith)); value = limit })

@@ -7,8 +7,6 @@ use mathlib.Core.Option.{Option, none, some}
 use lib.ListN.{length}
 use lib.Dec.{ltb}
 use Rattle.wire.specs.Reader.{choose}
-use Rattle.tree.specs.Tree.{listed}
-use Rattle.tree.specs.declared.Kind.the-variants.{Command}
 use Rattle.access.specs.Table.{tableGood}
 use Rattle.store.specs.Store.{storeGood}
 use Rattle.readings.specs.Lent.{readingsGood}
@@ -16,7 +14,7 @@ use Rattle.signature.specs.Hmac.{hmac}
 use Rattle.protocol.specs.Frame.{frame, Fits}
 use Rattle.protocol.specs.State as lent
 use Rattle.protocol.specs.State.{State, table}
-use Rattle.protocol.specs.Reading.{sameBytes, envelope, readMessage, closing, decoded, verified, opened, readingBy}
+use Rattle.protocol.specs.Reading.{sameBytes, envelope, readMessage, decodes, closing, decoded, verified, opened, readingBy}
 use Rattle.protocol.specs.Answer.{refused, answered, reading}
 use Rattle.protocol.specs.Proved as proved
 use Rattle.protocol.specs.Proved.{same-bytes, not-refused}
@@ -26,7 +24,7 @@ use Rattle.protocol.specs.Box.{box, answers}
 module _ (s : State) (m : List ℕ) (i : ℕ) (sig c : List ℕ) (sealed : readMessage m ≡ some (envelope i sig c))
     -- no key that the table has for the identity makes the hmac right; of an unknown identity there is none
     (unverified : (key : List ℕ) → box .keyOf s i ≡ some key → sig ≡ hmac key c → ⊥) where
-  wrong : (key : List ℕ) → box .keyOf s i ≡ some key → (t : Bool) → sameBytes sig (hmac key c) ≡ t → choose t (decoded i key (listed Command c)) (closing 2) ≡ closing 2
+  wrong : (key : List ℕ) → box .keyOf s i ≡ some key → (t : Bool) → sameBytes sig (hmac key c) ≡ t → choose t (decoded i key (decodes c)) (closing 2) ≡ closing 2
   wrong key k true e = absurd (unverified key k (same-bytes sig (hmac key c) e))
   wrong key k false e = refl
 

@@ -30,3 +30,5 @@ pub mod FormatLaws
 pub mod CallRefusals
 pub mod LogLaws
 pub mod Puts
+pub mod Twice
+pub mod TwiceLaws

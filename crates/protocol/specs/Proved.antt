@@ -10,17 +10,17 @@ use lib.ListN.{length, length-append}
 use lib.Dec.{ltb, eqb}
 use borrow.Author.Tests.{eqb-true, eq-eqb}
 use Rattle.wire.specs.Reader.{choose}
-use Rattle.tree.specs.Tree.{thenO, Tree, intAt, rawAt, subAt, listed}
+use Rattle.tree.specs.Tree.{thenO, Tree, intAt, rawAt, subAt}
 use Rattle.tree.specs.PutIn.{Nothing, PutIn, EqualBut, EqualButO}
 use Rattle.tree.specs.PutInLaws.{put-in-same, put-in-replaced}
 use Rattle.tree.specs.StrictLaws.{put-in-refused}
 use Rattle.tree.specs.EqualButLaws.{int-equal, RawsBut, raw-equal, SubsBut, sub-equal}
 use Rattle.protocol.specs.Frame.{frame, Fits, frame-read}
-use Rattle.protocol.specs.Reading.{orEmpty, sameBytes, Envelope, envelope, sealed, isOne, envelopeOf, readMessage}
+use Rattle.protocol.specs.Reading.{orEmpty, sameBytes, Envelope, envelope, sealed, isOne, envelopeOf, readMessage, sentOnce, decodes}
 use Rattle.protocol.specs.Reading.{Reading, closing, undecodable, read, decoded, verified, opened, readingBy}
 use Rattle.protocol.specs.Answer.{Reply, reply, Device, Outcome, refused, answered, taking, unlessRefused, reading, respond, unlessReadings, serve, answer}
 use Rattle.protocol.specs.Demand.{Free, Edited, SameBut, Signed, SameAnswer, StrangeAnswer}
-use Rattle.tree.specs.declared.Kind.the-variants.{Message, Command}
+use Rattle.tree.specs.declared.Kind.the-variants.{Message}
 
 clash : {A : Type 0} → _≡_ {A = ℕ} 0 1 → A
 clash e = absurd (omega arith)
@@ -96,14 +96,14 @@ record Passed (hmac : List ℕ → List ℕ → List ℕ) (keyOf : ℕ → Optio
   message : readMessage m ≡ some (envelope i sig command)
   known : keyOf i ≡ some key
   right : sig ≡ hmac key command
-  says : listed Command command ≡ some t
+  says : decodes command ≡ some t
 
 module _ (hmac : List ℕ → List ℕ → List ℕ) (keyOf : ℕ → Option (List ℕ)) where
   passes : (m : List ℕ) {i : ℕ} {key : List ℕ} {t : Tree} → readingBy hmac keyOf m ≡ read i key t → Passed hmac keyOf m i key t
   unfolding readingBy
   passes m {i} {key} {t} e = go (readMessage m) refl e
     where
-      last : (j : ℕ) (sig c k : List ℕ) (o : Option Tree) → readMessage m ≡ some (envelope j sig c) → keyOf j ≡ some k → sig ≡ hmac k c → listed Command c ≡ o
+      last : (j : ℕ) (sig c k : List ℕ) (o : Option Tree) → readMessage m ≡ some (envelope j sig c) → keyOf j ≡ some k → sig ≡ hmac k c → decodes c ≡ o
           → decoded j k o ≡ read i key t → Passed hmac keyOf m i key t
       last j sig c k none p q s l e = clash (cc)
       last j sig c k (some u) p q s l e =
@@ -112,8 +112,8 @@ module _ (hmac : List ℕ → List ℕ → List ℕ) (keyOf : ℕ → Option (Li
           record { sig = sig; command = c; message = p ∙ ap (λ j. some (envelope j sig c)) a; known = ap keyOf (sym a) ∙ q ∙ ap some b; right = s ∙ ap (λ k. hmac k c) b; says = l ∙ ap some (cc) }
 
       test : (j : ℕ) (sig c k : List ℕ) (b : Bool) → sameBytes sig (hmac k c) ≡ b → readMessage m ≡ some (envelope j sig c) → keyOf j ≡ some k
-          → choose b (decoded j k (listed Command c)) (closing 2) ≡ read i key t → Passed hmac keyOf m i key t
-      test j sig c k true s p q e = last j sig c k (listed Command c) p q (same-bytes sig (hmac k c) s) refl e
+          → choose b (decoded j k (decodes c)) (closing 2) ≡ read i key t → Passed hmac keyOf m i key t
+      test j sig c k true s p q e = last j sig c k (decodes c) p q (same-bytes sig (hmac k c) s) refl e
       test j sig c k false s p q e = clash (cc)
 
       look-up : (j : ℕ) (sig c : List ℕ) (o : Option (List ℕ)) → keyOf j ≡ o → readMessage m ≡ some (envelope j sig c) → verified hmac keyOf j sig c o ≡ read i key t
@@ -127,7 +127,7 @@ module _ (hmac : List ℕ → List ℕ → List ℕ) (keyOf : ℕ → Option (Li
 
   -- a message of a known identity, rightly signed, is read as its command decodes
   pub reads : (m : List ℕ) {i : ℕ} {key sig c : List ℕ} → readMessage m ≡ some (envelope i sig c) → keyOf i ≡ some key → sig ≡ hmac key c
-      → readingBy hmac keyOf m ≡ decoded i key (listed Command c)
+      → readingBy hmac keyOf m ≡ decoded i key (decodes c)
   unfolding readingBy
   reads m {i} {key} {sig} {c} p q s = rw (p, q, s, bytes-same (hmac key c)) refl
 
@@ -175,7 +175,7 @@ module _ (D : Device) where
       let p = passes (D .hmac) (D .keyOf s) m e in
       let a = read-like (r .around) (p .message) in
       let w = r .within i i (p .sig) (a .sig) (p .command) (a .command) (p .message) (a .is) in
-      reads (D .hmac) (D .keyOf s) m' (a .is) (p .known) (g i (a .sig) (a .command) (a .is)) ∙ ap (decoded i key) (put-in-same w ∙ p .says)
+      reads (D .hmac) (D .keyOf s) m' (a .is) (p .known) (g i (a .sig) (a .command) (a .is)) ∙ ap (decoded i key) (ap (λ o. thenO o (λ t. sentOnce t)) (put-in-same w) ∙ p .says)
 
   -- THE SECOND HALF of the reading
   strange-reading : (s : D .State) (m m' : List ℕ) {i : ℕ} {key : List ℕ} {t : Tree} (c : ℕ) → reading D s m ≡ read i key t → Edited (suc c) m m' → Signed D key m'
@@ -184,7 +184,7 @@ module _ (D : Device) where
       let p = passes (D .hmac) (D .keyOf s) m e in
       let a = read-like (r .around) (p .message) in
       let w = r .within i i (p .sig) (a .sig) (p .command) (a .command) (p .message) (a .is) in
-      reads (D .hmac) (D .keyOf s) m' (a .is) (p .known) (g i (a .sig) (a .command) (a .is)) ∙ ap (decoded i key) (put-in-refused Nothing w)
+      reads (D .hmac) (D .keyOf s) m' (a .is) (p .known) (g i (a .sig) (a .command) (a .is)) ∙ ap (decoded i key) (ap (λ o. thenO o (λ t. sentOnce t)) (put-in-refused Nothing w))
 
   pub same-answer : SameAnswer D
   same-answer s out m m' v rest rest' i key t e f r g f' =

@@ -1,14 +1,14 @@
 -- Demand 2: "A reply read back by the field rules for replies gives that answer and nothing else", for every reply that the box gives.
 use Prim.Native.Nat.{ℕ, _+_, _^_, _<_}
 use native.Mathlib.Omega.{arith}
-use mathlib.Core.Path.{_≡_, refl, subst}
+use mathlib.Core.Path.{_≡_, refl, ap, subst}
 use mathlib.Core.Bool.{Bool, true, false}
 use mathlib.Core.List.{List}
 use mathlib.Core.Option.{Option, none, some}
 use lib.ListN.{length}
 use lib.Dec.{ltb}
 use Rattle.wire.specs.Reader.{choose}
-use Rattle.tree.specs.Tree.{mapO, thenO, Tree, listed, intAt, rawAt, subAt}
+use Rattle.tree.specs.Tree.{mapO, thenO, guard, Tree, listed, intAt, rawAt, subAt}
 use Rattle.tree.specs.declared.Kind.the-variants.{Message, Command as CommandKind}
 use Rattle.encoding.specs.Basics.{never}
 use Rattle.access.specs.Table as access
@@ -24,7 +24,7 @@ use Rattle.protocol.specs.State.{State, table}
 use Rattle.protocol.specs.Command.{headerOf, commandOf}
 use Rattle.protocol.specs.Operation.{askedBy, replyType}
 use Rattle.protocol.specs.Judge.{judge}
-use Rattle.protocol.specs.Reading.{orEmpty, sameBytes, Envelope, envelope, sealed, isOne, envelopeOf, readMessage, Reading, closing, undecodable, read, decoded, verified, opened, readingBy}
+use Rattle.protocol.specs.Reading.{securityOnce, sentOnce, decodes, orEmpty, sameBytes, Envelope, envelope, sealed, isOne, envelopeOf, readMessage, Reading, closing, undecodable, read, decoded, verified, opened, readingBy}
 use Rattle.protocol.specs.Answer.{Outcome, refused, answered, unlessRefused, reading, serve, respond, taking, answer}
 use Rattle.protocol.specs.Box.{box, answers, aclOf, sequenceOf, typeOf, close, judged, decide}
 use Rattle.protocol.specs.Words.{Words, listed-words, int-word-at, sub-words-at}
@@ -64,6 +64,18 @@ decoded-readable : (i : ℕ) (key : List ℕ) (o : Option Tree) → i < 2 ^ 64 �
 decoded-readable i key none h f = h
 decoded-readable i key (some t) h f = (h, f t refl)
 
+sent-same : (t u : Tree) (b : Bool) → guard b t ≡ some u → t ≡ u
+sent-same t u true e = cc
+sent-same t u false e = never (cc)
+
+-- a command that decodes says its tree
+decodes-listed : (c : List ℕ) {t : Tree} → decodes c ≡ some t → listed CommandKind c ≡ some t
+decodes-listed c {t} e = go (listed CommandKind c) e
+  where
+    go : (o : Option Tree) → thenO o (λ t. sentOnce t) ≡ some t → o ≡ some t
+    go none e = never (cc)
+    go (some u) e = ap some (sent-same u t (securityOnce u) e)
+
 choose-readable : (b : Bool) (r : Reading) → Readable r → Readable (choose b r (closing 2))
 choose-readable true r h = h
 choose-readable false r h = known-code refl
@@ -72,7 +84,7 @@ module _ (keyOf : ℕ → Option (List ℕ)) where
   verified-readable : (i : ℕ) (sig c : List ℕ) (o : Option (List ℕ)) → i < 2 ^ 64 → Readable (verified hmac keyOf i sig c o)
   verified-readable i sig c none h = known-code refl
   verified-readable i sig c (some key) h =
-      choose-readable (sameBytes sig (hmac key c)) (decoded i key (listed CommandKind c)) (decoded-readable i key (listed CommandKind c) h (λ t q. listed-words CommandKind c q))
+      choose-readable (sameBytes sig (hmac key c)) (decoded i key (decodes c)) (decoded-readable i key (decodes c) h (λ t q. listed-words CommandKind c (decodes-listed c q)))
 
   opened-readable : (o : Option Envelope) → ((i : ℕ) (sig c : List ℕ) → o ≡ some (envelope i sig c) → i < 2 ^ 64) → Readable (opened hmac keyOf o)
   opened-readable none f = known-code refl

@@ -3,9 +3,10 @@ use Prim.Native.Nat.{ℕ}
 use mathlib.Core.List.{List, [], _∷_}
 use mathlib.Core.Option.{Option, none, some}
 use mathlib.Core.Bool.{Bool, true, false}
-use lib.Dec.{eqb}
+use lib.Dec.{eqb, leb}
+use lib.ListN.{length}
 use Rattle.wire.specs.Reader.{choose}
-use Rattle.tree.specs.Tree.{Tree, thenO, intAt, rawAt, subAt, listed}
+use Rattle.tree.specs.Tree.{Tree, thenO, guard, intAt, rawAt, subAt, treeIn, subsAt, listed}
 use Rattle.tree.specs.declared.Kind.the-variants.{Message, Command}
 
 -- absent bytes are empty
@@ -40,6 +41,17 @@ envelopeOf t = choose (isOne (intAt 4 t)) (sealed (subAt 5 t) (rawAt 7 t)) none
 unfoldable pub readMessage : List ℕ → Option Envelope
 readMessage m = thenO (listed Message m) (λ t. envelopeOf t)
 
+-- document 02, CR 5: "Security sent twice … stay[s] refused": in one body, or in two that are merged
+unfoldable pub securityOnce : Tree → Bool
+securityOnce t = leb (length (subsAt 7 (treeIn (subAt 2 t)))) 1
+
+abbrev pub sentOnce : Tree → Option Tree
+sentOnce t = guard (securityOnce t) t
+
+-- step 3: "Command decodes"
+abbrev pub decodes : List ℕ → Option Tree
+decodes c = thenO (listed Command c) (λ t. sentOnce t)
+
 pub data Reading : Type 0 where
   -- steps 1 and 2: the code
   closing : ℕ → Reading
@@ -55,7 +67,7 @@ decoded i key (some t) = read i key t
 module _ (hmac : List ℕ → List ℕ → List ℕ) (keyOf : ℕ → Option (List ℕ)) where
   abbrev pub verified : ℕ → List ℕ → List ℕ → Option (List ℕ) → Reading
   verified i sig c none = closing 2
-  verified i sig c (some key) = choose (sameBytes sig (hmac key c)) (decoded i key (listed Command c)) (closing 2)
+  verified i sig c (some key) = choose (sameBytes sig (hmac key c)) (decoded i key (decodes c)) (closing 2)
 
   abbrev pub opened : Option Envelope → Reading
   opened none = closing 20

@@ -89,7 +89,7 @@ frame-length m v = omega (arith, length-append m v)
 
 status-fits : (code : ℕ) → CodeNamed code → (ns : List ℕ) → among 3 ns ≡ false → FitsAfter ReplyCommand ns (statusTree code)
 status-fits code h ns e =
-    fit-sub Status (number refl) (omega arith) (rw e) (fit-int (number refl) (h .small) (guarded (h .named)) ends) ends
+    fit-sub Status (number refl) (omega arith) refl (fit-int (number refl) (h .small) (guarded (h .named)) ends) ends
 
 header-fits : (c : ℕ) (a : Option ℕ) (y : ℕ) → c < 2 ^ 64 → ((v : ℕ) → a ≡ some v → v < 2 ^ 64) → TypeFits y → Fits Header (headerTree c a y)
 header-fits c a y l f h =

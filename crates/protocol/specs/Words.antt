@@ -19,7 +19,7 @@ use Rattle.tree.specs.declared.Kind.{Kind}
 use Rattle.tree.specs.declared.Form.{Form}
 use Rattle.tree.specs.declared.Form.the-variants.{Int64, Int32, Named, Flag, Bytes, Opaque, Float, Nested}
 use Rattle.tree.specs.declared.Rule.{Rule}
-use Rattle.tree.specs.declared.Rule.the-variants.{Unlisted, Refused, Single, Repeated}
+use Rattle.tree.specs.declared.Rule.the-variants.{Unlisted, Refused, Once, Single, Repeated}
 
 -- ---- readers
 
@@ -171,7 +171,8 @@ rule-word : (r : Rule) (st : Bool) (n : ℕ) (v : Value) (acc : List Item) {is :
 rule-word Unlisted true n v acc h k e = never (cc)
 rule-word Unlisted false n v acc h k e = some-items acc k e
 rule-word Refused st n v acc h k e = never (cc)
-rule-word (Single f) st n v acc {is} h k e = go (isSome (find n acc)) e
+rule-word (Single f) st n v acc h k e = add-word n acc (decode f v) k (λ c z. decode-word f v h z) e
+rule-word (Once f) st n v acc {is} h k e = go (isSome (find n acc)) e
   where
     go : (t : Bool) → choose t none (add n acc (decode f v)) ≡ some is → WordItems is
     go true q = never (cc)

@@ -8,8 +8,7 @@ use native.Mathlib.Omega.{arith}
 use lib.ListN.{length, take, drop, getD}
 use lib.Seq.{take-at}
 use Rattle.wire.specs.Reader.{choose}
-use Rattle.tree.specs.Tree.{listed, guard, mapO}
-use Rattle.tree.specs.declared.Kind.the-variants.{Command}
+use Rattle.tree.specs.Tree.{guard, mapO}
 use Rattle.signature.specs.Hmac as signature
 use Rattle.signature.specs.Hmac.{hmac}
 use Rattle.signature.specs.HmacLaws.{verified-exactly}
@@ -73,16 +72,16 @@ module _ (s : State) (v : List ℕ) where
 
   module _ (i : ℕ) (sig c key : List ℕ) where
     pub wrong-hmac : sameBytes sig (hmac key c) ≡ false → respond box s v (verified hmac keyOf i sig c (some key)) ≡ close s 2
-    wrong-hmac e = ap (λ (t : Bool). respond box s v (choose t (decoded i key (listed Command c)) (reading.closing 2))) e
+    wrong-hmac e = ap (λ (t : Bool). respond box s v (choose t (decoded i key (reading.decodes c)) (reading.closing 2))) e
 
     pub right-hmac : sameBytes sig (hmac key c) ≡ true
-        → respond box s v (verified hmac keyOf i sig c (some key)) ≡ respond box s v (decoded i key (listed Command c))
-    right-hmac e = ap (λ (t : Bool). respond box s v (choose t (decoded i key (listed Command c)) (reading.closing 2))) e
+        → respond box s v (verified hmac keyOf i sig c (some key)) ≡ respond box s v (decoded i key (reading.decodes c))
+    right-hmac e = ap (λ (t : Bool). respond box s v (choose t (decoded i key (reading.decodes c)) (reading.closing 2))) e
 
   -- the command under the key, by its copy
   pub sent-by : (i : ℕ) (c : List ℕ) {by key : List ℕ} {n : ℕ} {out out' : List ℕ} {after : State} → by ≡ key
-      → Sent (respond box s v (decoded i by (listed Command c))) n out out' after → Sent (respond box s v (decoded i key (listed Command c))) n out out' after
-  sent-by i c {n = n} {out} {out'} {after} e h = subst (λ (k : List ℕ). Sent (respond box s v (decoded i k (listed Command c))) n out out' after) e h
+      → Sent (respond box s v (decoded i by (reading.decodes c))) n out out' after → Sent (respond box s v (decoded i key (reading.decodes c))) n out out' after
+  sent-by i c {n = n} {out} {out'} {after} e h = subst (λ (k : List ℕ). Sent (respond box s v (decoded i k (reading.decodes c))) n out out' after) e h
 
 -- the comparison of step 2 is that of the signature part
 pub hmac-right : (key c sig : List ℕ) → length key ≤ 64 → length c ≤ 8192 → sameBytes sig (hmac key c) ≡ signature.verified key c sig

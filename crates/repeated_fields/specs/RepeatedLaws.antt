@@ -10,16 +10,18 @@ use Rattle.wire.specs.Reader.{choose}
 use Rattle.wire.specs.Wire.{Value, vint, v64, vlen, v32, Field, field, fieldsOf}
 use Rattle.tree.specs.Rules.{namesOf, ruleOf, strictOf}
 use Rattle.tree.specs.Tree.{mapO, guard, isSome, among, Content, cInt, cRaw, cFix, cMsg, Item, item, isInt32, decode, find, add, byRule, step, items, itemsO, level}
-use Rattle.tree.specs.Tree.{Tree, done, int, raw, fix, sub, openOne, openAll, listed, consIf, intsAt, rawsAt, subsAt}
+use Rattle.tree.specs.Tree.{Tree, done, int, raw, fix, sub, openOne, openAll, listed, consIf, intsAt, rawsAt, subsAt, treeIn}
+use Rattle.tree.specs.PutIn.{Has}
 use Rattle.tree.specs.declared.Kind.{Kind}
 use Rattle.tree.specs.declared.Names.{Names}
 use Rattle.tree.specs.declared.Form.{Form}
 use Rattle.tree.specs.declared.Form.the-variants.{Int32, Named, Bytes, Nested}
 use Rattle.tree.specs.declared.Rule.{Rule}
-use Rattle.tree.specs.declared.Rule.the-variants.{Unlisted, Refused, Single, Repeated}
-use Rattle.lookups.specs.Views.{orDone, Reads, treeOf}
+use Rattle.tree.specs.declared.Rule.the-variants.{Unlisted, Refused, Once, Single, Repeated}
+use Rattle.lookups.specs.Views.{Reads, treeOf}
 use Rattle.repeated_fields.specs.Values.{valuesOf, orNil, valuesIn, partsOf, numbersOf, partsIn, numbersIn, WellFramed}
-use Rattle.lookups.specs.LevelLaws.{nothing-some, then-some, level-of}
+use Rattle.tree.specs.OptionLaws.{nothing-some, then-some}
+use Rattle.lookups.specs.LevelLaws.{level-of}
 
 -- what the items of a number hold, in order
 abbrev contents : ℕ → List Item → List Content
@@ -58,7 +60,8 @@ grown-choose m is js false o e h = h e
 grown-rule : (r : Rule) (st : Bool) (m : ℕ) (v : Value) (is js : List Item) → byRule r st m v is ≡ some js → Grown m is js
 grown-rule Unlisted st m v is js e = grown-choose m is js st (some is) e (λ q. let w : is ≡ js = cc (q) in subst (λ (l : List Item). Grown m is l) w as-was)
 grown-rule Refused st m v is js e = nothing-some e
-grown-rule (Single f) st m v is js e = grown-choose m is js (isSome (find m is)) (add m is (decode f v)) e (λ q. grown-add m is js (decode f v) q)
+grown-rule (Single f) st m v is js e = grown-add m is js (decode f v) e
+grown-rule (Once f) st m v is js e = grown-choose m is js (isSome (find m is)) (add m is (decode f v)) e (λ q. grown-add m is js (decode f v) q)
 grown-rule (Repeated f) st m v is js e = grown-add m is js (decode f v) e
 
 grown-other : (n m : ℕ) (is : List Item) {js : List Item} → eqb n m ≡ false → Grown m is js → contents n js ≡ contents n is
@@ -70,13 +73,27 @@ record Adds (n : ℕ) (f : Form) (vs : List Value) (acc is : List Item) : Type 0
   pub after : contents n is ≡ contents n acc ++ new
   pub each : Each f vs new
 
-module _ (k : Kind) (n : ℕ) (g : Form) (ρ : ruleOf k n ≡ Repeated g) where
+module _ (k : Kind) (n : ℕ) (g : Form) (ρ : Has g (ruleOf k n)) where
   one : (v : Value) (acc a : List Item) → step k (field n v) acc ≡ some a → (c : Content) × (decode g v ≡ some c) × (a ≡ acc ++ (item n c ∷ []))
-  one v acc a e = go (decode g v) (sym (ap (λ r. byRule r (strictOf k) n v acc) ρ) ∙ e)
+  one v acc a e = by (ruleOf k n) ρ e
     where
       go : (o : Option Content) → add n acc o ≡ some a → (c : Content) × (o ≡ some c) × (a ≡ acc ++ (item n c ∷ []))
       go none q = nothing-some q
       go (some c) q = (c, refl, (cc))
+
+      other : (t : Bool) (o : Option (List Item)) → choose t none o ≡ some a → o ≡ some a
+      other true o q = nothing-some q
+      other false o q = q
+
+      as-form : (f : Form) → g ≡ f → add n acc (decode f v) ≡ some a → (c : Content) × (decode g v ≡ some c) × (a ≡ acc ++ (item n c ∷ []))
+      as-form f p q = go (decode g v) (ap (λ f. add n acc (decode f v)) p ∙ q)
+
+      by : (r : Rule) → Has g r → byRule r (strictOf k) n v acc ≡ some a → (c : Content) × (decode g v ≡ some c) × (a ≡ acc ++ (item n c ∷ []))
+      by Unlisted p q = absurd p
+      by Refused p q = absurd p
+      by (Once f) p q = as-form f p (other (isSome (find n acc)) (add n acc (decode f v)) q)
+      by (Single f) p q = as-form f p q
+      by (Repeated f) p q = as-form f p q
 
   adds-items : (fs : List Field) (acc is : List Item) → items k fs acc ≡ some is → Adds n g (valuesOf n fs) acc is
   unfolding items
@@ -155,7 +172,7 @@ unfolding treeOf
 looks-sub n k x s t true m cs e q h = record {
   ints = h .ints;
   raws = h .raws;
-  subs = ap₂ (λ b l. consIf b s l) e (h .subs) ∙ ap (λ u. u ∷ subsC cs) (sym (ap orDone q));
+  subs = ap₂ (λ b l. consIf b s l) e (h .subs) ∙ ap (λ u. u ∷ subsC cs) (sym (ap treeIn q));
   read = (ap isSome q, h .read);
 }
 looks-sub n k x s t false m cs e q h = record { ints = h .ints; raws = h .raws; subs = ap₂ (λ b l. consIf b s l) e (h .subs); read = h .read }
@@ -262,32 +279,32 @@ each-subs k (v32 b ∷ vs) (c ∷ cs) h r = nothing-some (h .0)
 
 -- THE LAWS -----------------------------------------------------------------------------------------
 module _ (k : Kind) (m : List ℕ) (y : Reads k m) (n : ℕ) where
-  ints-of : (f : Form) → Keeps f → ruleOf k n ≡ Repeated f → intsAt n (treeOf k m) ≡ numbersIn n m
+  ints-of : (f : Form) → Keeps f → Has f (ruleOf k n) → intsAt n (treeOf k m) ≡ numbersIn n m
   ints-of f g q =
       let i = level-of k m y in
       looks-all n (i .0) (treeOf k m) (i .2) .ints ∙ sym (each-ints f g (valuesIn n m) (contents n (i .0)) (each-level k n f q m (i .0) (i .1)))
 
-  pub repeated-ints : ruleOf k n ≡ Repeated Int32 → intsAt n (treeOf k m) ≡ numbersIn n m
+  pub repeated-ints : Has Int32 (ruleOf k n) → intsAt n (treeOf k m) ≡ numbersIn n m
   repeated-ints q = ints-of Int32 keeps-int32 q
 
-  pub repeated-named : (e : Names) → ruleOf k n ≡ Repeated (Named e) → intsAt n (treeOf k m) ≡ numbersIn n m
+  pub repeated-named : (e : Names) → Has (Named e) (ruleOf k n) → intsAt n (treeOf k m) ≡ numbersIn n m
   repeated-named e q = ints-of (Named e) (keeps-named e) q
 
-  pub repeated-among : (e : Names) → ruleOf k n ≡ Repeated (Named e) → AllAmong (namesOf e) (numbersIn n m)
+  pub repeated-among : (e : Names) → Has (Named e) (ruleOf k n) → AllAmong (namesOf e) (numbersIn n m)
   repeated-among e q = let i = level-of k m y in each-among e (valuesIn n m) (contents n (i .0)) (each-level k n (Named e) q m (i .0) (i .1))
 
-  pub repeated-raws : ruleOf k n ≡ Repeated Bytes → rawsAt n (treeOf k m) ≡ partsIn n m
+  pub repeated-raws : Has Bytes (ruleOf k n) → rawsAt n (treeOf k m) ≡ partsIn n m
   repeated-raws q =
       let i = level-of k m y in
       looks-all n (i .0) (treeOf k m) (i .2) .raws ∙ sym (each-raws (valuesIn n m) (contents n (i .0)) (each-level k n Bytes q m (i .0) (i .1)))
 
-  pub repeated-subs : (k' : Kind) → ruleOf k n ≡ Repeated (Nested k') → subsAt n (treeOf k m) ≡ treesOf k' (partsIn n m)
+  pub repeated-subs : (k' : Kind) → Has (Nested k') (ruleOf k n) → subsAt n (treeOf k m) ≡ treesOf k' (partsIn n m)
   repeated-subs k' q =
       let i = level-of k m y in
       let l = looks-all n (i .0) (treeOf k m) (i .2) in
       l .subs ∙ sym (each-subs k' (valuesIn n m) (contents n (i .0)) (each-level k n (Nested k') q m (i .0) (i .1)) (l .read) .0)
 
-  pub repeated-reads : (k' : Kind) → ruleOf k n ≡ Repeated (Nested k') → AllRead k' (partsIn n m)
+  pub repeated-reads : (k' : Kind) → Has (Nested k') (ruleOf k n) → AllRead k' (partsIn n m)
   repeated-reads k' q =
       let i = level-of k m y in
       let l = looks-all n (i .0) (treeOf k m) (i .2) in

@@ -1,7 +1,7 @@
 -- An algorithm that decodes is one of 1 to 6: the table names no other.
 use Prim.Native.Nat.{ℕ, _≤_}
 use native.Mathlib.Omega.{arith}
-use mathlib.Core.Path.{_≡_, refl, subst}
+use mathlib.Core.Path.{_≡_, refl, sym, ap, subst}
 use mathlib.Core.List.{List, [], _∷_}
 use mathlib.Core.Option.{Option, none, some}
 use mathlib.Core.Bool.{Bool, true, false}
@@ -10,12 +10,14 @@ use borrow.Author.Tests.{eqb-true}
 use Rattle.wire.specs.Reader.{choose}
 use Rattle.wire.specs.Wire.{Value, vint, v64, vlen, v32}
 use Rattle.tree.specs.Rules.{namesOf}
-use Rattle.tree.specs.Tree.{guard, among, Content, cInt, decode, find, intAt}
+use Rattle.tree.specs.Tree.{guard, among, Content, cInt, decode, intAt}
 use Rattle.tree.specs.declared.Kind.the-variants.{KeyValue}
 use Rattle.tree.specs.declared.Names.the-variants.{Algorithm}
 use Rattle.tree.specs.declared.Form.the-variants.{Named}
 use Rattle.lookups.specs.Views.{Reads, treeOf}
-use Rattle.lookups.specs.LevelLaws.{nothing-some, level-decodes, level-once, level-of, intC, int-look}
+use Rattle.tree.specs.OptionLaws.{nothing-some}
+use Rattle.lookups.specs.LevelLaws.{Is, Decodes, all-more, level-all, level-decodes, level-of, intC, int-look}
+use Rattle.fields.specs.Slots.{findLast}
 use Rattle.protocol.specs.Command.{orElse}
 
 abbrev Most : ℕ → List ℕ → Type 0
@@ -46,10 +48,22 @@ decoded (v32 b) c e = nothing-some e
 pub algorithm-most : (m : List ℕ) → Reads KeyValue m → orElse 0 (intAt 6 (treeOf KeyValue m)) ≤ 6
 algorithm-most m y =
     let l = level-of KeyValue m y in
-    let is = l .0 in
-    rw (int-look 6 is (treeOf KeyValue m) (l .2) (level-once KeyValue 6 refl m (l .1))) (go (find 6 is) refl)
+    rw (int-look 6 (l .0) (treeOf KeyValue m) (l .2) (all-more (Decodes (Named Algorithm)) (Is intC) 6 (l .0) sort (level-all KeyValue 6 (Named Algorithm) m (l .0) refl (l .1)))) (go (findLast 6 (l .0)) refl)
   where
-    go : (o : Option Content) → find 6 (level-of KeyValue m y .0) ≡ o → orElse 0 (intC o) ≤ 6
+    sort : (c : Content) → Decodes (Named Algorithm) c → Is intC c
+    sort c d = named (d .0) (d .1)
+      where
+        from : (b : Bool) (v : ℕ) → guard b (cInt v) ≡ some c → Is intC c
+        from true v e = let q : cInt v ≡ c = cc in (v, ap (λ c. intC (some c)) (sym q))
+        from false v e = nothing-some e
+
+        named : (v : Value) → decode (Named Algorithm) v ≡ some c → Is intC c
+        named (vint v) e = from (among v (namesOf Algorithm)) v e
+        named (v64 b) e = nothing-some e
+        named (vlen b) e = nothing-some e
+        named (v32 b) e = nothing-some e
+
+    go : (o : Option Content) → findLast 6 (level-of KeyValue m y .0) ≡ o → orElse 0 (intC o) ≤ 6
     go none e = omega arith
     go (some c) e =
         let l = level-of KeyValue m y in

@@ -1,38 +1,116 @@
--- One law for each level.
+-- One law for each level: what its fields say, and two of them merged.
 use Prim.Native.Nat.{ℕ, _≤_}
-use mathlib.Core.Path.{_≡_, refl}
+use mathlib.Core.Path.{_≡_, refl, sym, subst}
 use mathlib.Core.List.{List}
+use mathlib.Core.Option.{Option}
+use Rattle.wire.specs.Reader.{choose}
 use Rattle.tree.specs.declared.Kind.the-variants as k
 use Rattle.fields.specs.declared.slots.Slots.{Slots}
-use Rattle.lookups.specs.Views.{treeOf, bytesAt, numView, Level, NumIs, PartIs}
+use Rattle.lookups.specs.Views.{treeOf, bytesAt, numView, Level, Lies, Merges, NumIs, PartIs}
+use Rattle.lookups.specs.LaterLaws.{num-later, part-later, later-is}
 use Rattle.lookups.specs.declared.parts.Num.{Num}
 use Rattle.lookups.specs.declared.parts.Part.{Part}
-use Rattle.protocol.specs.Command.{orElse, headerOf, keyValueOf, rangeOf}
+use Rattle.protocol.specs.Command.{orElse}
 use Rattle.request_parts.proofs.Algorithm.{algorithm-most}
-use Rattle.request_parts.specs.Views.{headerView, keyValueView, rangeView}
+use Rattle.request_parts.specs.Views.{HeaderIs, KeyValueIs, RangeIs}
 use Rattle.request_parts.specs.declared.Header.{Header}
 use Rattle.request_parts.specs.declared.KeyValue.{KeyValue}
 use Rattle.request_parts.specs.declared.Range.{Range}
 
 module _ (s : List ℕ) (p : Part) (t : Slots) where
   pub header-law : Level k.Header (bytesAt s p) t → (a1 a3 a4 a7 : Num) → NumIs t 1 a1 → NumIs t 3 a3 → NumIs t 4 a4 → NumIs t 7 a7
-      → headerView (record { cluster = a1; connection = a3; sequence = a4; kind = a7 }) ≡ headerOf (treeOf k.Header (bytesAt s p))
+      → HeaderIs (treeOf k.Header (bytesAt s p)) (record { cluster = a1; connection = a3; sequence = a4; kind = a7 })
   header-law y a1 a3 a4 a7 e1 e3 e4 e7 =
       let m = bytesAt s p in
-      rw (e1 k.Header m y refl, e3 k.Header m y refl, e4 k.Header m y refl, e7 k.Header m y refl) refl
+      record { cluster = e1 k.Header m y refl; connection = e3 k.Header m y refl; sequence = e4 k.Header m y refl; kind = e7 k.Header m y refl }
 
   pub key-value-law : Level k.KeyValue (bytesAt s p) t → (a2 a3 a4 a5 : Part) (a6 a7 a8 : Num)
       → PartIs s p t 2 a2 → PartIs s p t 3 a3 → PartIs s p t 4 a4 → PartIs s p t 5 a5 → NumIs t 6 a6 → NumIs t 7 a7 → NumIs t 8 a8
-      → keyValueView s (record { version = a2; key = a3; expected = a4; tag = a5; algorithm = a6; metadata = a7; force = a8 }) ≡ keyValueOf (treeOf k.KeyValue (bytesAt s p))
+      → KeyValueIs s (treeOf k.KeyValue (bytesAt s p)) (record { version = a2; key = a3; expected = a4; tag = a5; algorithm = a6; metadata = a7; force = a8 })
   key-value-law y a2 a3 a4 a5 a6 a7 a8 e2 e3 e4 e5 e6 e7 e8 =
       let m = bytesAt s p in
-      rw (e2 .bytes k.KeyValue y refl, e3 .bytes k.KeyValue y refl, e4 .bytes k.KeyValue y refl, e5 .bytes k.KeyValue y refl, e6 k.KeyValue m y refl, e7 k.KeyValue m y refl, e8 k.KeyValue m y refl) refl
+      record {
+        version = e2 .bytes k.KeyValue y refl;
+        key = e3 .bytes k.KeyValue y refl;
+        expected = e4 .bytes k.KeyValue y refl;
+        tag = e5 .bytes k.KeyValue y refl;
+        algorithm = e6 k.KeyValue m y refl;
+        metadata = e7 k.KeyValue m y refl;
+        force = e8 k.KeyValue m y refl;
+        lies = record {
+          version = e2 .lies;
+          key = e3 .lies;
+          expected = e4 .lies;
+          tag = e5 .lies;
+          algorithm = subst (λ (o : Option ℕ). orElse 0 o ≤ 6) (sym (e6 k.KeyValue m y refl)) (algorithm-most m (y .reads));
+        };
+      }
 
   pub range-law : Level k.Range (bytesAt s p) t → (a1 a2 : Part) (a3 a4 a5 a6 : Num) → PartIs s p t 1 a1 → PartIs s p t 2 a2 → NumIs t 3 a3 → NumIs t 4 a4 → NumIs t 5 a5 → NumIs t 6 a6
-      → rangeView s (record { start = a1; end = a2; first = a3; last = a4; limit = a5; reverse = a6 }) ≡ rangeOf (treeOf k.Range (bytesAt s p))
+      → RangeIs s (treeOf k.Range (bytesAt s p)) (record { start = a1; end = a2; first = a3; last = a4; limit = a5; reverse = a6 })
   range-law y a1 a2 a3 a4 a5 a6 e1 e2 e3 e4 e5 e6 =
       let m = bytesAt s p in
-      rw (e1 .bytes k.Range y refl, e2 .bytes k.Range y refl, e3 k.Range m y refl, e4 k.Range m y refl, e5 k.Range m y refl, e6 k.Range m y refl) refl
+      record {
+        start = e1 .bytes k.Range y refl;
+        end = e2 .bytes k.Range y refl;
+        first = e3 k.Range m y refl;
+        last = e4 k.Range m y refl;
+        limit = e5 k.Range m y refl;
+        reverse = e6 k.Range m y refl;
+        lies = record { start = e1 .lies; end = e2 .lies };
+      }
 
-  pub algorithm-law : Level k.KeyValue (bytesAt s p) t → (a6 : Num) → NumIs t 6 a6 → orElse 0 (numView a6) ≤ 6
-  algorithm-law y a6 e6 = let m = bytesAt s p in rw (e6 k.KeyValue m y refl) (algorithm-most m (y .reads))
+-- two of them, one after the other: of each field the later one
+abbrev NumLater : Num → Num → Num → Type 0
+NumLater b a r = r ≡ choose (a .has) a b
+
+abbrev PartLater : Part → Part → Part → Type 0
+PartLater b a r = r ≡ choose (a .has) a b
+
+pub headers-law : (b a : Header) (r1 r3 r4 r7 : Num)
+    → NumLater (b .cluster) (a .cluster) r1 → NumLater (b .connection) (a .connection) r3 → NumLater (b .sequence) (a .sequence) r4 → NumLater (b .kind) (a .kind) r7
+    → Merges HeaderIs b a (record { cluster = r1; connection = r3; sequence = r4; kind = r7 })
+headers-law b a r1 r3 r4 r7 e1 e3 e4 e7 t u x y = record {
+  cluster = num-later 1 t u (b .cluster) (a .cluster) r1 e1 (x .cluster) (y .cluster);
+  connection = num-later 3 t u (b .connection) (a .connection) r3 e3 (x .connection) (y .connection);
+  sequence = num-later 4 t u (b .sequence) (a .sequence) r4 e4 (x .sequence) (y .sequence);
+  kind = num-later 7 t u (b .kind) (a .kind) r7 e7 (x .kind) (y .kind);
+}
+
+module _ (s : List ℕ) where
+  lies-later : (b a r : Part) → PartLater b a r → Lies s b → Lies s a → Lies s r
+  lies-later b a r e x y = later-is (λ (p : Part). Lies s p) (a .has) b a r e x y
+
+  pub key-values-law : (b a : KeyValue) (r2 r3 r4 r5 : Part) (r6 r7 r8 : Num)
+      → PartLater (b .version) (a .version) r2 → PartLater (b .key) (a .key) r3 → PartLater (b .expected) (a .expected) r4 → PartLater (b .tag) (a .tag) r5
+      → NumLater (b .algorithm) (a .algorithm) r6 → NumLater (b .metadata) (a .metadata) r7 → NumLater (b .force) (a .force) r8
+      → Merges (KeyValueIs s) b a (record { version = r2; key = r3; expected = r4; tag = r5; algorithm = r6; metadata = r7; force = r8 })
+  key-values-law b a r2 r3 r4 r5 r6 r7 r8 e2 e3 e4 e5 e6 e7 e8 t u x y = record {
+    version = part-later 2 t u s (b .version) (a .version) r2 e2 (x .version) (y .version);
+    key = part-later 3 t u s (b .key) (a .key) r3 e3 (x .key) (y .key);
+    expected = part-later 4 t u s (b .expected) (a .expected) r4 e4 (x .expected) (y .expected);
+    tag = part-later 5 t u s (b .tag) (a .tag) r5 e5 (x .tag) (y .tag);
+    algorithm = num-later 6 t u (b .algorithm) (a .algorithm) r6 e6 (x .algorithm) (y .algorithm);
+    metadata = num-later 7 t u (b .metadata) (a .metadata) r7 e7 (x .metadata) (y .metadata);
+    force = num-later 8 t u (b .force) (a .force) r8 e8 (x .force) (y .force);
+    lies = record {
+      version = lies-later (b .version) (a .version) r2 e2 (x .lies .version) (y .lies .version);
+      key = lies-later (b .key) (a .key) r3 e3 (x .lies .key) (y .lies .key);
+      expected = lies-later (b .expected) (a .expected) r4 e4 (x .lies .expected) (y .lies .expected);
+      tag = lies-later (b .tag) (a .tag) r5 e5 (x .lies .tag) (y .lies .tag);
+      algorithm = later-is (λ (n : Num). orElse 0 (numView n) ≤ 6) (a .algorithm .has) (b .algorithm) (a .algorithm) r6 e6 (x .lies .algorithm) (y .lies .algorithm);
+    };
+  }
+
+  pub ranges-law : (b a : Range) (r1 r2 : Part) (r3 r4 r5 r6 : Num) → PartLater (b .start) (a .start) r1 → PartLater (b .end) (a .end) r2
+      → NumLater (b .first) (a .first) r3 → NumLater (b .last) (a .last) r4 → NumLater (b .limit) (a .limit) r5 → NumLater (b .reverse) (a .reverse) r6
+      → Merges (RangeIs s) b a (record { start = r1; end = r2; first = r3; last = r4; limit = r5; reverse = r6 })
+  ranges-law b a r1 r2 r3 r4 r5 r6 e1 e2 e3 e4 e5 e6 t u x y = record {
+    start = part-later 1 t u s (b .start) (a .start) r1 e1 (x .start) (y .start);
+    end = part-later 2 t u s (b .end) (a .end) r2 e2 (x .end) (y .end);
+    first = num-later 3 t u (b .first) (a .first) r3 e3 (x .first) (y .first);
+    last = num-later 4 t u (b .last) (a .last) r4 e4 (x .last) (y .last);
+    limit = num-later 5 t u (b .limit) (a .limit) r5 e5 (x .limit) (y .limit);
+    reverse = num-later 6 t u (b .reverse) (a .reverse) r6 e6 (x .reverse) (y .reverse);
+    lies = record { start = lies-later (b .start) (a .start) r1 e1 (x .lies .start) (y .lies .start); end = lies-later (b .end) (a .end) r2 e2 (x .lies .end) (y .lies .end) };
+  }

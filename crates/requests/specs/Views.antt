@@ -3,25 +3,31 @@
 use mathlib.Core.Path.{_≡_}
 use mathlib.Core.List.{List, []}
 use mathlib.Core.Option.{Option}
-use Prim.Native.Nat.{ℕ}
-use Rattle.tree.specs.Tree.{guard}
-use Rattle.tree.specs.declared.Kind.the-variants.{GetLog, Security}
-use Rattle.lookups.specs.Views.{numView, bytesAt, Lies, Reads, treeOf}
+use mathlib.Core.Bool.{Bool, true, false}
+use Prim.Native.Nat.{ℕ, _≤_}
+use lib.ListN.{length}
+use lib.Dec.{leb}
+use Rattle.wire.specs.Reader.{choose}
+use Rattle.tree.specs.Tree.{guard, isSome, Tree, subAt, treeIn, subsAt}
+use Rattle.tree.specs.declared.Kind.the-variants.{Command, Security}
+use Rattle.lookups.specs.Views.{numView, bytesAt, Lies, Reads, Sub, treeOf}
 use Rattle.protocol.specs.Command as c
-use Rattle.protocol.specs.Command.{orElse, typesOf, securityOf}
+use Rattle.protocol.specs.Command.{orElse, securityOf}
 use Rattle.protocol.specs.Judge.{keyValueIn, rangeIn}
-use Rattle.request_parts.specs.Views.{headerView, keyValueView, KeyValueLies, rangeView, RangeLies}
+use Rattle.request_parts.specs.Views.{headerView, keyValueView, KeyValueLies, rangeView, RangeLies, KeyValueIs, RangeIs}
+use Rattle.merged_parts.specs.Setups.{SetupIs}
+use Rattle.merged_parts.specs.Types.{logTypes}
 use Rattle.requests.specs.declared.Body.{Body}
 use Rattle.requests.specs.declared.Request.{Request}
 
--- where there is no getLog or security part the empty one stands for it, which decodes
+-- where there is no security part the empty one stands for it, which decodes; the types are those of the whole command s
 abbrev pub bodyView : List ℕ → Body → c.Body
 bodyView s b =
     record {
       keyValue = guard (b .keyed) (keyValueView s (b .entry));
       range = guard (b .ranged) (rangeView s (b .range));
       setup = guard (b .changed) (numView (b .cluster));
-      getLog = guard (b .log .has) (typesOf (treeOf GetLog (bytesAt s (b .log))));
+      getLog = guard (b .logged) (logTypes s);
       security = guard (b .security .has) (securityOf (treeOf Security (bytesAt s (b .security))));
     }
 
@@ -29,13 +35,38 @@ bodyView s b =
 pub record BodyLies (s : List ℕ) (b : Body) : Type 0 where
   pub entry : KeyValueLies s (b .entry)
   pub range : RangeLies s (b .range)
-  pub log : Lies s (b .log)
-  pub logReads : Reads GetLog (bytesAt s (b .log))
+  pub log : b .logged ≡ true → Reads Command s
   pub security : Lies s (b .security)
   pub reads : Reads Security (bytesAt s (b .security))
   pub key : keyValueIn (bodyView s b) .key ≡ bytesAt s (b .entry .key)
   pub start : orElse [] (rangeIn (bodyView s b) .startKey) ≡ bytesAt s (b .range .start)
   pub end : orElse [] (rangeIn (bodyView s b) .endKey) ≡ bytesAt s (b .range .end)
+
+-- what was read of the bodies that t joins; the security part counts where there is at most one
+pub record BodyIs (s : List ℕ) (t : Tree) (b : Body) : Type 0 where
+  pub keyed : b .keyed ≡ isSome (subAt 1 t)
+  pub entry : KeyValueIs s (treeIn (subAt 1 t)) (b .entry)
+  pub ranged : b .ranged ≡ isSome (subAt 2 t)
+  pub range : RangeIs s (treeIn (subAt 2 t)) (b .range)
+  pub changed : b .changed ≡ isSome (subAt 3 t)
+  pub cluster : SetupIs (treeIn (subAt 3 t)) (b .cluster)
+  pub logged : b .logged ≡ isSome (subAt 6 t)
+  pub secured : b .security .has ≡ isSome (subAt 7 t)
+  pub lies : Lies s (b .security)
+  pub reads : Reads Security (bytesAt s (b .security))
+  pub security : length (subsAt 7 t) ≤ 1 → Sub Security s (b .security) (subAt 7 t)
+
+-- whether the bodies that t joins have a security; at most one, unless a singular field of the command was sent twice
+pub record Secured (t : Tree) (secured twice : Bool) : Type 0 where
+  pub here : secured ≡ isSome (subAt 7 t)
+  pub sole : twice ≡ false → length (subsAt 7 t) ≤ 1
+
+-- how many securities: none, one, or more
+abbrev pub capped : ℕ → ℕ
+capped n = choose (leb n 1) n 2
+
+abbrev pub CountIs : Tree → ℕ → Type 0
+CountIs t n = n ≡ capped (length (subsAt 7 t))
 
 -- none where the command does not decode
 abbrev pub requestView : List ℕ → Request → Option c.Command

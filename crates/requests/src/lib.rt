@@ -3,27 +3,38 @@ pub mod numbers;
 
 ghost use mathlib.Core.Path.{_≡_};
 ghost use mathlib.Core.List.{List};
-ghost use mathlib.Core.Bool.{false};
+ghost use mathlib.Core.Bool.{true, false};
 ghost use Prim.Native.Nat.{ℕ};
-ghost use Rattle.tree.specs.Tree.{listed, mapO};
-ghost use Rattle.lookups.specs.Views.{Inside, Reads, bytesAt, numView, treeOf};
-ghost use Rattle.protocol.specs.Command.{bodyOf, commandOf, setupOf};
-ghost use Rattle.requests.specs.Views.{BodyLies, bodyView, requestView};
+ghost use Rattle.wire.specs.Reader.{choose};
+ghost use Rattle.tree.specs.Tree.{done, mapO, subAt, treeIn};
+ghost use Rattle.lookups.specs.Views.{After, Inside, Merges, Only, Reads, bytesAt, treeOf};
+ghost use Rattle.protocol.specs.Command.{commandOf};
+ghost use Rattle.protocol.specs.Reading.{decodes, securityOnce};
+ghost use Rattle.requests.specs.Views.{BodyIs, BodyLies, CountIs, Secured, requestView};
 use fields::nested::reads;
 use lookups::parts::Num;
 use lookups::parts::Part;
-use lookups::parts::num_of;
+use lookups::parts::later_num;
+use lookups::parts::later_part;
 use lookups::parts::open_at;
 use lookups::parts::part_of;
+use lookups::parts::sent_twice;
+use merged_parts::entry_in;
+use merged_parts::header_in;
+use merged_parts::range_in;
+use merged_parts::setup_in;
+use repeated_fields::next_part;
 use request_parts::Header;
 use request_parts::KeyValue;
 use request_parts::Range;
-use request_parts::read_header;
-use request_parts::read_key_value;
-use request_parts::read_range;
+use request_parts::merge_key_values;
+use request_parts::merge_ranges;
+use request_parts::no_header;
+use request_parts::no_key_value;
+use request_parts::no_range;
 use tree::Kind;
 
-// The parts of a body, each with whether it is there: keyValue, range, setup (its newClusterVersion), getLog and security.
+// The parts of a body, each with whether it is there: keyValue, range, setup (its newClusterVersion), getLog (whether it is there) and security.
 pub struct Body {
     pub keyed: bool,
     pub entry: KeyValue,
@@ -31,7 +42,7 @@ pub struct Body {
     pub range: Range,
     pub changed: bool,
     pub cluster: Num,
-    pub log: Part,
+    pub logged: bool,
     pub security: Part,
 }
 
@@ -43,27 +54,52 @@ pub struct Request {
     pub body: Body,
 }
 
-fn read_setup(s: &[u8], p: Part) -> Num
-    requires { ⌜ Inside (now s) p × Reads (Kind.Setup) (bytesAt (now s) p) ⌝ }
-    ensures { λ r. ⌜ numView r ≡ setupOf (treeOf (Kind.Setup) (bytesAt (now (s .entry)) p)) ⌝ }
+fn either(a: bool, b: bool) -> bool
+    ensures { λ r. ⌜ r ≡ choose a true b ⌝ }
 {
-    let t = open_at(s, p, Kind::Setup);
-    num_of(t, 1)
+    if a {
+        return true;
+    }
+    b
 }
 
+fn no_body() -> Body
+    ensures { λ r. ⌜ ((s : List ℕ) → BodyIs s done r) ⌝ }
+{
+    Body {
+        keyed: false,
+        entry: no_key_value(),
+        ranged: false,
+        range: no_range(),
+        changed: false,
+        cluster: Num {
+            has: false,
+            value: 0,
+        },
+        logged: false,
+        security: Part {
+            has: false,
+            start: 0,
+            len: 0,
+        },
+    }
+}
+
+// The body in the part p.
 fn read_body(s: &[u8], p: Part) -> Body
     requires { ⌜ Inside (now s) p × Reads (Kind.Body) (bytesAt (now s) p) ⌝ }
-    ensures { λ r. ⌜ (bodyView (now (s .entry)) r ≡ bodyOf (treeOf (Kind.Body) (bytesAt (now (s .entry)) p))) × BodyLies (now (s .entry)) r ⌝ }
+    ensures { λ r. ⌜ BodyIs (now (s .entry)) (treeOf (Kind.Body) (bytesAt (now (s .entry)) p)) r ⌝ }
 {
     let t = open_at(s, p, Kind::Body);
     let a = part_of(s, p, t, 1);
     let b = part_of(s, p, t, 2);
     let c = part_of(s, p, t, 3);
-    let log = part_of(s, p, t, 6);
+    let d = part_of(s, p, t, 6);
     let security = part_of(s, p, t, 7);
-    let entry = read_key_value(s, a);
-    let range = read_range(s, b);
-    let cluster = read_setup(s, c);
+    let twice = sent_twice(t);
+    let entry = entry_in(s, p, a, twice);
+    let range = range_in(s, p, b, twice);
+    let cluster = setup_in(s, p, c, twice);
     Body {
         keyed: a.has,
         entry,
@@ -71,90 +107,144 @@ fn read_body(s: &[u8], p: Part) -> Body
         range,
         changed: c.has,
         cluster,
-        log,
+        logged: d.has,
         security,
     }
 }
 
-fn read_command(s: &[u8], p: Part) -> Request
+fn merge_bodies(before: Body, after: Body) -> Body
+    ensures { λ r. ⌜ ((s : List ℕ) → Merges (BodyIs s) before after r) ⌝ }
+{
+    Body {
+        keyed: either(before.keyed, after.keyed),
+        entry: merge_key_values(before.entry, after.entry),
+        ranged: either(before.ranged, after.ranged),
+        range: merge_ranges(before.range, after.range),
+        changed: either(before.changed, after.changed),
+        cluster: later_num(before.cluster, after.cluster),
+        logged: either(before.logged, after.logged),
+        security: later_part(before.security, after.security),
+    }
+}
+
+// Every body of the command in the part p.
+fn read_bodies(s: &[u8], p: Part) -> Body
     requires { ⌜ Inside (now s) p × Reads (Kind.Command) (bytesAt (now s) p) ⌝ }
-    ensures { λ r. ⌜ (requestView (now (s .entry)) r ≡ mapO commandOf (listed (Kind.Command) (bytesAt (now (s .entry)) p))) × BodyLies (now (s .entry)) (r .body) ⌝ }
+    ensures { λ r. ⌜ BodyIs (now (s .entry)) (treeIn (subAt 2 (treeOf (Kind.Command) (bytesAt (now (s .entry)) p)))) r ⌝ }
+{
+    let mut left = p;
+    let mut b = no_body();
+    while 0 < left.len {
+        let x = next_part(s, left, 2);
+        let has = x.part.has;
+        if !has {
+            return b;
+        }
+        b = merge_bodies(b, read_body(s, x.part));
+        left = x.rest;
+    }
+    b
+}
+
+// The same, where a is the last one, and the only one unless a singular field of the command was sent twice.
+fn body_in(s: &[u8], p: Part, a: Part, twice: bool) -> Body
+    requires { ⌜ Inside (now s) p × Reads (Kind.Command) (bytesAt (now s) p) × Only (Kind.Body) (now s) a twice (subAt 2 (treeOf (Kind.Command) (bytesAt (now s) p))) ⌝ }
+    ensures { λ r. ⌜ BodyIs (now (s .entry)) (treeIn (subAt 2 (treeOf (Kind.Command) (bytesAt (now (s .entry)) p)))) r ⌝ }
+{
+    let has = a.has;
+    if !has {
+        return no_body();
+    }
+    if twice {
+        return read_bodies(s, p);
+    }
+    read_body(s, a)
+}
+
+// How many securities: those before and that of the body in the part p; 2 for more.
+fn securities(s: &[u8], p: Part, before: u64) -> u64
+    requires { ⌜ Inside (now s) p × Reads (Kind.Body) (bytesAt (now s) p) ⌝ }
+    ensures { λ r. ⌜ After CountIs before r (treeOf (Kind.Body) (bytesAt (now (s .entry)) p)) ⌝ }
+{
+    let t = open_at(s, p, Kind::Body);
+    let a = part_of(s, p, t, 7);
+    let has = a.has;
+    if !has {
+        return before;
+    }
+    if before == 0 {
+        return 1;
+    }
+    2
+}
+
+// How many securities all bodies of the command in the part p have; 2 for more.
+fn all_securities(s: &[u8], p: Part) -> u64
+    requires { ⌜ Inside (now s) p × Reads (Kind.Command) (bytesAt (now s) p) ⌝ }
+    ensures { λ r. ⌜ CountIs (treeIn (subAt 2 (treeOf (Kind.Command) (bytesAt (now (s .entry)) p)))) r ⌝ }
+{
+    let mut left = p;
+    let mut n = 0;
+    while 0 < left.len {
+        let x = next_part(s, left, 2);
+        let has = x.part.has;
+        if !has {
+            return n;
+        }
+        n = securities(s, x.part, n);
+        left = x.rest;
+    }
+    n
+}
+
+// Whether the bodies of the command in the part p, which have one or not, have at most one security: asked only where a singular field of the command was sent twice.
+fn secured_once(s: &[u8], p: Part, secured: bool, twice: bool) -> bool
+    requires { ⌜ Inside (now s) p × Reads (Kind.Command) (bytesAt (now s) p) × Secured (treeIn (subAt 2 (treeOf (Kind.Command) (bytesAt (now s) p)))) secured twice ⌝ }
+    ensures { λ r. ⌜ r ≡ securityOnce (treeOf (Kind.Command) (bytesAt (now (s .entry)) p)) ⌝ }
+{
+    if !secured {
+        return true;
+    }
+    if twice {
+        return all_securities(s, p) < 2;
+    }
+    true
+}
+
+// The whole command.
+fn read_command(s: &[u8], p: Part) -> Request
+    requires { ⌜ Inside (now s) p × Reads (Kind.Command) (bytesAt (now s) p) × (bytesAt (now s) p ≡ now s) ⌝ }
+    ensures { λ r. ⌜ (requestView (now (s .entry)) r ≡ mapO commandOf (decodes (now (s .entry)))) × BodyLies (now (s .entry)) (r .body) ⌝ }
 {
     let t = open_at(s, p, Kind::Command);
     let h = part_of(s, p, t, 1);
     let b = part_of(s, p, t, 2);
-    let header = read_header(s, h);
-    let body = read_body(s, b);
+    let twice = sent_twice(t);
+    let header = header_in(s, p, h, twice);
+    let body = body_in(s, p, b, twice);
+    let ok = secured_once(s, p, body.security.has, twice);
     Request {
-        ok: true,
+        ok,
         headed: h.has,
         header,
         body,
     }
 }
 
-fn no_body() -> Body
-    ensures { λ r. ⌜ ((s : List ℕ) → BodyLies s r) ⌝ }
-{
-    let none = Num {
-        has: false,
-        value: 0,
-    };
-    let empty = Part {
-        has: false,
-        start: 0,
-        len: 0,
-    };
-    Body {
-        keyed: false,
-        entry: KeyValue {
-            version: empty,
-            key: empty,
-            expected: empty,
-            tag: empty,
-            algorithm: none,
-            metadata: none,
-            force: none,
-        },
-        ranged: false,
-        range: Range {
-            start: empty,
-            end: empty,
-            first: none,
-            last: none,
-            limit: none,
-            reverse: none,
-        },
-        changed: false,
-        cluster: none,
-        log: empty,
-        security: empty,
-    }
-}
-
 fn no_request() -> Request
     ensures { λ r. ⌜ (r .ok ≡ false) × ((s : List ℕ) → BodyLies s (r .body)) ⌝ }
 {
-    let none = Num {
-        has: false,
-        value: 0,
-    };
     Request {
         ok: false,
         headed: false,
-        header: Header {
-            cluster: none,
-            connection: none,
-            sequence: none,
-            kind: none,
-        },
+        header: no_header(),
         body: no_body(),
     }
 }
 
 // What a command says; not ok where it does not decode.
 pub fn read_request(s: &[u8]) -> Request
-    ensures { λ r. ⌜ (requestView (now (s .entry)) r ≡ mapO commandOf (listed (Kind.Command) (now (s .entry)))) × BodyLies (now (s .entry)) (r .body) ⌝ }
+    ensures { λ r. ⌜ (requestView (now (s .entry)) r ≡ mapO commandOf (decodes (now (s .entry)))) × BodyLies (now (s .entry)) (r .body) ⌝ }
 {
     if reads(s, Kind::Command) {
         let whole = Part {

@@ -7,7 +7,7 @@ use Rattle.tree.specs.Rules.{ruleOf}
 use Rattle.tree.specs.Tree.{Tree, consIf, subsAt}
 use Rattle.tree.specs.declared.Kind.{Kind}
 use Rattle.tree.specs.declared.Form.the-variants.{Nested}
-use Rattle.tree.specs.declared.Rule.the-variants.{Repeated}
+use Rattle.tree.specs.PutIn.{Has}
 use Rattle.lookups.specs.Views.{Inside, bytesAt, treeOf}
 use Rattle.repeated_fields.specs.Values.{partsIn, WellFramed, NextPartIs}
 use Rattle.repeated_fields.specs.RepeatedLaws.{treesOf, AllRead, repeated-subs, repeated-reads, reads-framed}
@@ -25,10 +25,10 @@ module _ {A : Type 0} (k : Kind) (num : ℕ) (f : Tree → A) (s : List ℕ) whe
   abbrev pub coming : Part → List A
   coming left = mapL f (treesOf k (partsIn num (bytesAt s left)))
 
-  pub rest-start : (kp : Kind) (p : Part) → Stands kp s p → ruleOf kp num ≡ Repeated (Nested k) → Rest k num s p
+  pub rest-start : (kp : Kind) (p : Part) → Stands kp s p → Has (Nested k) (ruleOf kp num) → Rest k num s p
   rest-start kp p y q = record { inside = y .inside; framed = reads-framed kp (bytesAt s p) (y .reads); reads = repeated-reads kp (bytesAt s p) (y .reads) num k q }
 
-  pub whole-is : (kp : Kind) (p : Part) → Stands kp s p → ruleOf kp num ≡ Repeated (Nested k) → mapL f (subsAt num (treeOf kp (bytesAt s p))) ≡ coming p
+  pub whole-is : (kp : Kind) (p : Part) → Stands kp s p → Has (Nested k) (ruleOf kp num) → mapL f (subsAt num (treeOf kp (bytesAt s p))) ≡ coming p
   whole-is kp p y q = ap (mapL f) (repeated-subs kp (bytesAt s p) (y .reads) num k q)
 
   module _ (left : Part) (w : Rest k num s left) (x : NextPart) (h : NextPartIs s left num x) where

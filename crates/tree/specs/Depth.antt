@@ -16,7 +16,7 @@ use Rattle.tree.specs.declared.Kind.the-variants.{Message, HmacAuth, Com
 use Rattle.tree.specs.declared.Form.{Form}
 use Rattle.tree.specs.declared.Form.the-variants.{Int64, Int32, Named, Flag, Bytes, Opaque, Float, Nested}
 use Rattle.tree.specs.declared.Rule.{Rule}
-use Rattle.tree.specs.declared.Rule.the-variants.{Unlisted, Refused, Single, Repeated}
+use Rattle.tree.specs.declared.Rule.the-variants.{Unlisted, Refused, Once, Single, Repeated}
 
 -- the test: the messages inside a message of a kind go at most so deep, by the rows of the table ----------------------
 
@@ -33,6 +33,7 @@ formFits p (Nested k) = p k
 abbrev ruleFits : (Kind → Bool) → Rule → Bool
 ruleFits p Unlisted = true
 ruleFits p Refused = true
+ruleFits p (Once f) = formFits p f
 ruleFits p (Single f) = formFits p f
 ruleFits p (Repeated f) = formFits p f
 
@@ -158,7 +159,8 @@ module _ (p : Kind → Bool) where
   all-rule : (r : Rule) (st : Bool) (n : ℕ) (v : Value) (acc : List Item) → ruleFits p r ≡ true → All acc → AllO (byRule r st n v acc)
   all-rule Unlisted st n v acc h a = all-unless st (some acc) a
   all-rule Refused st n v acc h a = tt
-  all-rule (Single f) st n v acc h a = all-unless (isSome (find n acc)) (add n acc (decode f v)) (all-add n acc (decode f v) a (decode-fits f v h))
+  all-rule (Single f) st n v acc h a = all-add n acc (decode f v) a (decode-fits f v h)
+  all-rule (Once f) st n v acc h a = all-unless (isSome (find n acc)) (add n acc (decode f v)) (all-add n acc (decode f v) a (decode-fits f v h))
   all-rule (Repeated f) st n v acc h a = all-add n acc (decode f v) a (decode-fits f v h)
 
   all-step : (k : Kind) (f : Field) (acc : List Item) → rowsFit p (tableOf k) ≡ true → All acc → AllO (step k f acc)

@@ -12,11 +12,12 @@ use Rattle.tree.specs.PutIn.{Has, Replaces, EqualBut}
 use Rattle.tree.specs.declared.Kind.{Kind}
 use Rattle.tree.specs.declared.Form.the-variants.{Nested}
 use Rattle.tree.specs.declared.Rule.{Rule}
-use Rattle.tree.specs.declared.Rule.the-variants.{Unlisted, Refused, Single, Repeated}
+use Rattle.tree.specs.declared.Rule.the-variants.{Unlisted, Refused, Once, Single, Repeated}
 
 one-kind : (r : Rule) {j k : Kind} → Has (Nested j) r → Has (Nested k) r → j ≡ k
 one-kind Unlisted h g = absurd h
 one-kind Refused h g = absurd h
+one-kind (Once f) {j} {k} h g = let e : Nested j ≡ Nested k = h ∙ sym g in cc
 one-kind (Single f) {j} {k} h g = let e : Nested j ≡ Nested k = h ∙ sym g in cc
 one-kind (Repeated f) {j} {k} h g = let e : Nested j ≡ Nested k = h ∙ sym g in cc
 

@@ -9,3 +9,9 @@ pub mod FrontLaws
 pub mod Boundaries
 pub mod PutInExamples
 pub mod Depth
+pub mod OptionLaws
+pub mod Merged
+pub mod Concat
+pub mod OnceLaws
+pub mod ConcatLaws
+pub mod OccurrenceLaws

@@ -12,12 +12,13 @@ use Rattle.tree.specs.declared.Kind.the-variants.{Message, HmacAuth, Com
 use Rattle.tree.specs.declared.Form.{Form}
 use Rattle.tree.specs.declared.Form.the-variants.{Bytes, Opaque, Nested}
 use Rattle.tree.specs.declared.Rule.{Rule}
-use Rattle.tree.specs.declared.Rule.the-variants.{Unlisted, Refused, Single, Repeated}
+use Rattle.tree.specs.declared.Rule.the-variants.{Unlisted, Refused, Once, Single, Repeated}
 
 -- a listed field of this form
 abbrev pub Has : Form → Rule → Type 0
 Has f Unlisted = ⊥
 Has f Refused = ⊥
+Has f (Once g) = f ≡ g
 Has f (Single g) = f ≡ g
 Has f (Repeated g) = f ≡ g
 

@@ -18,7 +18,7 @@ use Rattle.tree.specs.declared.Kind.the-variants.{Message, HmacAuth, Com
 use Rattle.tree.specs.declared.Form.{Form}
 use Rattle.tree.specs.declared.Form.the-variants.{Bytes, Opaque, Nested}
 use Rattle.tree.specs.declared.Rule.{Rule}
-use Rattle.tree.specs.declared.Rule.the-variants.{Unlisted, Refused, Single, Repeated}
+use Rattle.tree.specs.declared.Rule.the-variants.{Unlisted, Refused, Once, Single, Repeated}
 
 -- the security part is where the table is strict
 pub security-strict : (k : Kind) → inSecurity k ≡ choose (strictOf k) 1 0
@@ -138,7 +138,8 @@ module _ (R : Replaces) where
       → ((f : Form) → Has f r → LikeO k n (decode f v) (decode f v')) → Alike k acc acc' → AlikeO k (byRule r st n v acc) (byRule r st n v' acc')
   alike-rule k Unlisted st n v v' g h = alike-unless k st (AlikeO.somes h)
   alike-rule k Refused st n v v' g h = AlikeO.nones
-  alike-rule k (Single f) st n v v' {acc} {acc'} g h =
+  alike-rule k (Single f) st n v v' g h = alike-add k n h (g f refl)
+  alike-rule k (Once f) st n v v' {acc} {acc'} g h =
       rw (alike-find k n h) (alike-unless k (isSome (find n acc')) (alike-add k n h (g f refl)))
   alike-rule k (Repeated f) st n v v' g h = alike-add k n h (g f refl)
 
@@ -150,6 +151,8 @@ module _ (R : Replaces) where
       → (acc acc' : List Item) → Alike k acc acc' → AlikeO k (byRule r st n (vlen b) acc) (byRule r st n (vlen b') acc')
   alike-form k Unlisted st n g b b' p l acc acc' a = absurd p
   alike-form k Refused st n g b b' p l acc acc' a = absurd p
+  alike-form k (Once f) st n g b b' p l acc acc' a =
+      alike-rule k (Once f) st n (vlen b) (vlen b') (λ f' q. subst (λ (f : Form). LikeO k n (ofBytes f b) (ofBytes f b')) (p ∙ sym q) l) a
   alike-form k (Single f) st n g b b' p l acc acc' a =
       alike-rule k (Single f) st n (vlen b) (vlen b') (λ f' q. subst (λ (f : Form). LikeO k n (ofBytes f b) (ofBytes f b')) (p ∙ sym q) l) a
   alike-form k (Repeated f) st n g b b' p l acc acc' a =

@@ -12,7 +12,7 @@ use Rattle.tree.specs.declared.Names.the-variants.{Priority, Algorithm, 
 use Rattle.tree.specs.declared.Form.{Form}
 use Rattle.tree.specs.declared.Form.the-variants.{Int64, Int32, Named, Flag, Bytes, Opaque, Float, Nested}
 use Rattle.tree.specs.declared.Rule.{Rule}
-use Rattle.tree.specs.declared.Rule.the-variants.{Unlisted, Refused, Single, Repeated}
+use Rattle.tree.specs.declared.Rule.the-variants.{Unlisted, Refused, Once, Single, Repeated}
 
 -- the values that an enum names
 abbrev pub namesOf : Names → List ℕ
@@ -27,8 +27,13 @@ pub data Table : Type 0 where
   end : Table
   row : ℕ → Rule → Table → Table
 
+-- sent again, it follows the public encoding (document 02, CR 5)
 abbrev single : ℕ → Form → Table → Table
 single n f t = row n (Single f) t
+
+-- sent again, it refuses the message: security of a body, and a singular field inside it
+abbrev once : ℕ → Form → Table → Table
+once n f t = row n (Once f) t
 
 abbrev repeated : ℕ → Form → Table → Table
 repeated n f t = row n (Repeated f) t
@@ -43,7 +48,7 @@ command = single 1 (Nested Header) (single 2 (Nested Body) (single 3 Opaque end)
 -- Body: 1 m keyValue, 2 m range, 3 m setup, 6 m getLog, 7 m security; 4, 8, 9, 10 r
 abbrev body : Table
 body =
-    single 1 (Nested KeyValue) (single 2 (Nested Range) (single 3 (Nested Setup) (refused 4 (single 6 (Nested GetLog) (single 7 (Nested Security)
+    single 1 (Nested KeyValue) (single 2 (Nested Range) (single 3 (Nested Setup) (refused 4 (single 6 (Nested GetLog) (once 7 (Nested Security)
     (refused 8 (refused 9 (refused 10 end))))))))
 
 -- Range: 1 b startKey, 2 b endKey, 3 f and 4 f inclusive flags, 5 s maxReturned (int32), 6 f reverse; 8 r
@@ -74,9 +79,9 @@ tableOf GetLog = repeated 1 (Named LogType) end
 -- Security: 2 m acl
 tableOf Security = repeated 2 (Nested Acl) end
 -- ACL: 1 s identity, 2 b key, 3 e hmacAlgorithm, 4 m scope
-tableOf Acl = single 1 Int64 (single 2 Bytes (single 3 Int32 (repeated 4 (Nested Scope) end)))
+tableOf Acl = once 1 Int64 (once 2 Bytes (once 3 Int32 (repeated 4 (Nested Scope) end)))
 -- Scope: 1 s offset, 2 b value, 3 e permission (one per field), 4 f TlsRequired
-tableOf Scope = single 1 Int64 (single 2 Bytes (repeated 3 Int32 (single 4 Flag end)))
+tableOf Scope = once 1 Int64 (once 2 Bytes (repeated 3 Int32 (once 4 Flag end)))
 -- for reading replies, Range 8 is a repeated b, Status 1 is e code, and of GetLog "the fields of document 003 that a built reply sends are listed";
 -- all else as listed above
 tableOf ReplyCommand = single 2 (Nested ReplyBody) (single 3 (Nested Status) command)

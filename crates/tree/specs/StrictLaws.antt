@@ -17,7 +17,7 @@ use Rattle.tree.specs.declared.Kind.{Kind}
 use Rattle.tree.specs.declared.Form.{Form}
 use Rattle.tree.specs.declared.Form.the-variants.{Nested}
 use Rattle.tree.specs.declared.Rule.{Rule}
-use Rattle.tree.specs.declared.Rule.the-variants.{Unlisted, Refused, Single, Repeated}
+use Rattle.tree.specs.declared.Rule.the-variants.{Unlisted, Refused, Once, Single, Repeated}
 
 -- items among which is a message that says nothing
 data Bad (d : ℕ) : List Item → Type 0 where
@@ -63,7 +63,8 @@ bad-add d n (some c) h = bad-snoc d (item n c) h
 bad-rule : (d : ℕ) (r : Rule) (st : Bool) (n : ℕ) (v : Value) (is : List Item) → Bad d is → BadO d (byRule r st n v is)
 bad-rule d Unlisted st n v is h = bad-unless d st (some is) h
 bad-rule d Refused st n v is h = tt
-bad-rule d (Single f) st n v is h = bad-unless d (isSome (find n is)) (add n is (decode f v)) (bad-add d n (decode f v) h)
+bad-rule d (Single f) st n v is h = bad-add d n (decode f v) h
+bad-rule d (Once f) st n v is h = bad-unless d (isSome (find n is)) (add n is (decode f v)) (bad-add d n (decode f v) h)
 bad-rule d (Repeated f) st n v is h = bad-add d n (decode f v) h
 
 bad-step : (d : ℕ) (k : Kind) (f : Field) (is : List Item) → Bad d is → BadO d (step k f is)
@@ -83,7 +84,8 @@ bad-message : (d : ℕ) (r : Rule) (st : Bool) (n : ℕ) (k : Kind) (b : List �
     → BadO d (byRule r st n (vlen b) is)
 bad-message d Unlisted st n k b is g e = absurd g
 bad-message d Refused st n k b is g e = absurd g
-bad-message d (Single f) st n k b is g e =
+bad-message d (Single f) st n k b is g e = subst (λ (f : Form). BadO d (add n is (ofBytes f b))) g (bad-last d n k b is e)
+bad-message d (Once f) st n k b is g e =
     bad-unless d (isSome (find n is)) (add n is (ofBytes f b)) (subst (λ (f : Form). BadO d (add n is (ofBytes f b))) g (bad-last d n k b is e))
 bad-message d (Repeated f) st n k b is g e = subst (λ (f : Form). BadO d (add n is (ofBytes f b))) g (bad-last d n k b is e)
 

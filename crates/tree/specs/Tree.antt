@@ -11,7 +11,7 @@ use Rattle.tree.specs.declared.Kind.{Kind}
 use Rattle.tree.specs.declared.Form.{Form}
 use Rattle.tree.specs.declared.Form.the-variants.{Int64, Int32, Named, Flag, Bytes, Opaque, Float, Nested}
 use Rattle.tree.specs.declared.Rule.{Rule}
-use Rattle.tree.specs.declared.Rule.the-variants.{Unlisted, Refused, Single, Repeated}
+use Rattle.tree.specs.declared.Rule.the-variants.{Unlisted, Refused, Once, Single, Repeated}
 
 abbrev pub mapO : {A B : Type 0} → (A → B) → Option A → Option B
 mapO f none = none
@@ -97,11 +97,13 @@ abbrev pub add : ℕ → List Item → Option Content → Option (List Item)
 add n acc none = none
 add n acc (some c) = some (acc ++ (item n c ∷ []))
 
--- one field after the items found so far; "a singular listed field twice in one message [is] refused"
+-- one field after the items found so far. Document 02, CR 5: "For singular listed fields follow the public encoding instead of refusing"; "Security sent
+-- twice, a second singular field inside it … stay refused": these are Once
 abbrev pub byRule : Rule → Bool → ℕ → Value → List Item → Option (List Item)
 byRule Unlisted st n v acc = choose st none (some acc)
 byRule Refused st n v acc = none
-byRule (Single f) st n v acc = choose (isSome (find n acc)) none (add n acc (decode f v))
+byRule (Once f) st n v acc = choose (isSome (find n acc)) none (add n acc (decode f v))
+byRule (Single f) st n v acc = add n acc (decode f v)
 byRule (Repeated f) st n v acc = add n acc (decode f v)
 
 abbrev pub step : Kind → Field → List Item → Option (List Item)
@@ -151,7 +153,7 @@ listedIn (suc d) k m = thenO (level k m) (λ is. openAll (λ k' b. listedIn d k'
 unfoldable pub listed : Kind → List ℕ → Option Tree
 listed k m = listedIn 5 k m
 
--- look-ups by number --------------------------------------------------------------
+-- look-ups by number: CR 5: "the last scalar or bytes value counts, embedded messages are merged" --------------------
 
 abbrev pub later : {A : Type 0} → Option A → Option A → Option A
 later none b = b
@@ -200,6 +202,11 @@ subAt n (int m v t) = subAt n t
 subAt n (raw m b t) = subAt n t
 subAt n (fix m b t) = subAt n t
 subAt n (sub m s t) = joinO (eqb n m) s (subAt n t)
+
+-- a message that is not there says nothing
+abbrev pub treeIn : Option Tree → Tree
+treeIn none = done
+treeIn (some t) = t
 
 abbrev pub consIf : {A : Type 0} → Bool → A → List A → List A
 consIf false a as' = as'

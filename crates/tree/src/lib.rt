@@ -44,10 +44,12 @@ pub enum Form {
     Nested(Kind),
 }
 
-// What a field number means in a kind: not listed, refused if present, at most once, or any number of times.
+// What a field number means in a kind: not listed, refused if present, refused if sent twice, singular (of two the last counts, messages are merged), or
+// any number of times.
 pub enum Rule {
     Unlisted,
     Refused,
+    Once(Form),
     Single(Form),
     Repeated(Form),
 }

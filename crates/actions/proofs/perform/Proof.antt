@@ -7,7 +7,7 @@ use Rattle.protocol.specs.State.{Connection, State, lent}
 use Rattle.protocol.specs.Judge.{fault, step10}
 use Rattle.requests.specs.Views.{bodyView}
 use Rattle.sending.specs.Sent.{Sent, replied}
-use Rattle.actions.proofs.Passes.{performed, put-good, range-short, table-good, wholeView}
+use Rattle.actions.proofs.Passes.{performed, put-good, range-short, table-good, wholeView, log-there}
 use borrow.Author.Needs.{needs}
 use Rattle.actions.proofs.perform.Statement.{statement}
 use Rattle.actions.proofs.perform.Tie as tie
@@ -102,8 +102,10 @@ enum-told-11 c = search needs
 
 get-log-requires : tie.Need-get-log-requires
 get-log-requires c κs =
-    let z = S (c .before .before .before .before) in
-    (z .pre .0, z .pre .1, z .pre .2, z .pre .5, record { inside = z .pre .3 .log .inside; reads = z .pre .3 .logReads })
+    let e = c .before .before in
+    let m = e .before .before in
+    let z = S m in
+    (z .pre .0, z .pre .1, z .pre .2, z .pre .5, z .pre .3 .log (log-there (now (z .args .s)) (z .args .b) (now (z .args .value)) (passed m (e .enum-told11 .given .1))))
 
 enum-told-12 : tie.Need-enum-told-12
 enum-told-12 c = search needs

@@ -32,7 +32,7 @@ broken-requires-4 c κs = search needs
 log-code-requires : tie.Need-log-code-requires
 log-code-requires c κs =
     let l = c .before .before .before .before .before .before .before .before .pre in
-    record { inside = l .log .inside; reads = l .logReads }
+    l .log
 
 security-code-requires : tie.Need-security-code-requires
 security-code-requires c κs =

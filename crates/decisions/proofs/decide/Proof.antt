@@ -1,6 +1,5 @@
 use denote.Ref.{now}
-use Rattle.tree.specs.Tree.{listed}
-use Rattle.tree.specs.declared.Kind.the-variants.{Command}
+use Rattle.protocol.specs.Reading as reading
 use Rattle.access.specs.Lookup.{found-placed}
 use Rattle.protocol.specs.State.{lent}
 use Rattle.connections.specs.Means.{connectionOf}
@@ -31,7 +30,7 @@ returns c =
     let z = x .before .before .before .before .before .before .before in
     let r = x .read-request .result in
     let s = lent (now (z .args .store)) (now (z .args .device)) (now (z .args .readings)) (connectionOf (z .args .connection)) in
-    decodes s (z .args .identity) (now (z .args .by)) (now (z .args .value)) (listed Command (now (z .args .s))) (commandIn (now (z .args .s)) r) (r .ok) (x .read-request .ensures .0) _ _ _
+    decodes s (z .args .identity) (now (z .args .by)) (now (z .args .value)) (reading.decodes (now (z .args .s))) (commandIn (now (z .args .s)) r) (r .ok) (x .read-request .ensures .0) _ _ _
     (c .before .before .before .before .before .before .before .before .if1 .taken) (z .args .place) (z .pre .4) _ (c .before .before .before .before .judge .ensures)
 
 status-requires : tie.Need-status-requires
@@ -46,7 +45,7 @@ returns-2 c =
     let z = x .before .before .before .before .before .before .before in
     let r = x .read-request .result in
     let s = lent (now (z .args .store)) (now (z .args .device)) (now (z .args .readings)) (connectionOf (z .args .connection)) in
-    undecoded s (z .args .identity) (now (z .args .by)) (now (z .args .value)) (listed Command (now (z .args .s))) (commandIn (now (z .args .s)) r) (r .ok) (x .read-request .ensures .0) _ _ _
+    undecoded s (z .args .identity) (now (z .args .by)) (now (z .args .value)) (reading.decodes (now (z .args .s))) (commandIn (now (z .args .s)) r) (r .ok) (x .read-request .ensures .0) _ _ _
     (c .before .before .before .before .if1 .left) (c .before .before .status .ensures s)
 
 pub decide-spec : {M : Type 1} → statement M

@@ -1,69 +1,33 @@
 use native.Mathlib.Omega.{arith}
-use Prim.Native.Nat.{_<_}
 use denote.Ref.{now}
-use borrow.Author.Tests.{not-true, not-false}
-use Rattle.log_types.proofs.Walk.{Walk, walk-start, walk-empty, walk-end, walk-small, walk-on}
+use mathlib.Core.Path.{_≡_, refl, ap, subst, _∙_}
+use mathlib.Core.List.{List}
+use Prim.Native.Nat.{ℕ}
+use Rattle.tree.specs.Tree.{done, isSome, listed, subAt, treeIn}
+use Rattle.tree.specs.declared.Kind.the-variants as k
+use Rattle.access.specs.Table.{maskOf}
+use Rattle.lookups.specs.Views.{treeOf}
+use Rattle.lookups.proofs.Slotted.{whole-bytes}
+use Rattle.merged_parts.specs.Types.{logTypes}
+use Rattle.log_types.specs.Types.{TypesAre, BodyTypes}
 use Rattle.log_types.proofs.log_types.Statement.{statement}
 use Rattle.log_types.proofs.log_types.Tie as tie
 
-abbrev Inv-loop : tie.InvT-loop
-Inv-loop s left₀ mask₀ left mask = Walk s left₀ left mask
+none-asked : BodyTypes done 0
+unfolding maskOf
+none-asked = record { set = refl }
 
-abbrev μ-loop : tie.MeasureT-loop
-μ-loop s left₀ mask₀ left mask = left .len
+types-whole : (s m : List ℕ) (r : ℕ) → m ≡ s → BodyTypes (treeIn (subAt 2 (treeOf k.Command m))) r → TypesAre (logTypes s) r
+unfolding logTypes
+types-whole s m r e h = subst (λ (m : List ℕ). BodyTypes (treeIn (subAt 2 (treeOf k.Command m))) r) e h
 
-loop-holds : tie.Need-loop-holds Inv-loop μ-loop
-loop-holds c = let z = c .before in walk-start (now (z .args .s)) (z .args .p) (z .pre)
+all-types-requires : tie.Need-all-types-requires
+all-types-requires c κs = let z = c .before in let s = now (z .args .s) in (omega arith, ap (λ m. isSome (listed k.Command m)) (whole-bytes s) ∙ z .pre)
 
-next-num-requires : tie.Need-next-num-requires Inv-loop μ-loop
-next-num-requires c κs = c .before .before .loop .inv .inside
-
-returns : tie.Need-returns Inv-loop μ-loop
+returns : tie.Need-returns
 returns c =
-    let x = c .before .next-num in
-    let o = c .before .before .before .before .loop in
-    walk-end (o .inv) (x .result) (x .ensures) (not-true _ (c .if2 .taken))
-
--- the type that was found
-small : (c : tie.After-struct-known2 Inv-loop μ-loop) → c .before .before .next-num .result .num .value < 8
-small c =
-    let e = c .before in
-    let x = e .before .next-num in
-    walk-small (e .before .before .before .before .loop .inv) (x .result) (x .ensures) (not-false _ (e .if2 .left))
-
-cast-with-bit : tie.Need-cast-with-bit Inv-loop μ-loop
-cast-with-bit c = let h = small c in omega arith
-
-with-bit-requires : tie.Need-with-bit-requires Inv-loop μ-loop
-with-bit-requires c κs = let h = small c in omega arith
-
-loop-less : tie.Need-loop-less Inv-loop μ-loop
-loop-less c =
-    let e = c .before .before .before in
-    let x = e .before .next-num in
-    x .ensures .shorter (not-false _ (e .if2 .left))
-
-loop-again : tie.Need-loop-again Inv-loop μ-loop
-loop-again c =
-    let e = c .before .before .before in
-    let x = e .before .next-num in
-    let w = c .before .with-bit in
-    walk-on (e .before .before .before .before .loop .inv) (x .result) (x .ensures) (not-false _ (e .if2 .left)) (w .result) (w .ensures)
-
-returns-2 : tie.Need-returns-2 Inv-loop μ-loop
-returns-2 c = walk-empty (c .before .before .loop .inv) (c .if1 .left)
+    let s = now (c .before .before .args .s) in
+    types-whole s _ (c .all-types .result) (whole-bytes s) (c .all-types .ensures done none-asked)
 
 pub log-types-spec : {M : Type 1} → statement M
-log-types-spec =
-    tie.close
-    (tie.spec
-    Inv-loop
-    μ-loop
-    loop-holds
-    next-num-requires
-    returns
-    cast-with-bit
-    with-bit-requires
-    loop-less
-    loop-again
-    returns-2)
+log-types-spec = tie.close (tie.spec all-types-requires returns)

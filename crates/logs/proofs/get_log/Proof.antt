@@ -5,14 +5,14 @@ use Prim.Native.Nat.{ℕ}
 use denote.Ref.{now}
 use Rattle.tree.specs.Tree.{among}
 use Rattle.protocol.specs.State.{State}
-use Rattle.log_types.specs.Types.{typesIn}
+use Rattle.merged_parts.specs.Types.{logTypes}
 use Rattle.logs.specs.Logged.{sent-device, sent-parts}
 use borrow.Author.Needs.{needs}
 use Rattle.logs.proofs.get_log.Statement.{statement}
 use Rattle.logs.proofs.get_log.Tie as tie
 
 abbrev types : tie.Start → List ℕ
-types z = typesIn (now (z .args .s)) (z .args .p)
+types z = logTypes (now (z .args .s))
 
 log-types-requires : tie.Need-log-types-requires
 log-types-requires c κs = search needs

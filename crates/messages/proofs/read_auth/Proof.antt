@@ -26,7 +26,8 @@ returns c =
     let t = o .result in
     let x0 = c .before .num-of in
     let x1 = c .part-of in
-    (x0 .ensures k.HmacAuth (bytesAt s p) (level-at k.HmacAuth s p t (o .ensures) (b .pre)) refl, x1 .ensures .bytes k.HmacAuth (level-at k.HmacAuth s p t (o .ensures) (b .pre)) refl, x1 .ensures .lies)
+    let l = level-at k.HmacAuth s p t (o .ensures) (b .pre) in
+    record { identity = x0 .ensures k.HmacAuth (bytesAt s p) l refl; hmac = x1 .ensures .bytes k.HmacAuth l refl; lies = x1 .ensures .lies }
 
 pub read-auth-spec : {M : Type 1} → statement M
 read-auth-spec =

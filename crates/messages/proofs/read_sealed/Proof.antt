@@ -4,7 +4,7 @@ use mathlib.Core.Path.{refl}
 use borrow.Author.Needs.{needs}
 use Rattle.tree.specs.declared.Kind.the-variants as k
 use Rattle.lookups.specs.Views.{bytesAt}
-use Rattle.lookups.proofs.Levels.{level-at, part-at, sized-at, sub-at, sub-reads}
+use Rattle.lookups.proofs.Levels.{level-at, only-at, part-at, sized-at}
 use Rattle.messages.proofs.Sealing.{sealed-law}
 use Rattle.messages.proofs.read_sealed.Statement.{statement}
 use Rattle.messages.proofs.read_sealed.Tie as tie
@@ -21,8 +21,16 @@ part-of-requires c κs = let b = c .before .before .before in let o = c .before 
 part-of-requires-2 : tie.Need-part-of-requires-2
 part-of-requires-2 c κs = let b = c .before .before .before .before in let o = c .before .before .open-at in part-at k.Message (now (b .args .s)) (b .args .p) (o .result) (o .ensures) (b .pre) 7 (omega arith) refl
 
-read-auth-requires : tie.Need-read-auth-requires
-read-auth-requires c κs = let b = c .before .before .before .before .before in let o = c .before .before .before .open-at in let x = c .before .part-of in sub-reads k.Message (now (b .args .s)) (b .args .p) (o .result) (o .ensures) (b .pre) 5 k.HmacAuth refl (x .result) (x .ensures)
+sent-twice-requires : tie.Need-sent-twice-requires
+sent-twice-requires c κs = search needs
+
+auth-in-requires : tie.Need-auth-in-requires
+auth-in-requires c κs =
+    let b = c .before .before .before .before .before .before in
+    let o = c .before .before .before .before .open-at in
+    let x = c .before .before .part-of in
+    let w = c .sent-twice in
+    (b .pre .0, b .pre .1, only-at k.Message (now (b .args .s)) (b .args .p) (o .result) (o .ensures) (b .pre) 5 k.HmacAuth refl (λ e. e) (x .result) (x .ensures) (w .result) (w .ensures))
 
 is-one-requires : tie.Need-is-one-requires
 is-one-requires c κs = search needs
@@ -32,23 +40,23 @@ all-of-requires c κs = search needs
 
 returns : tie.Need-returns
 returns c =
-    let b = c .before .before .before .before .before .before .before .before .before .before in
+    let b = c .before .before .before .before .before .before .before .before .before .before .before in
     let s = now (b .args .s) in
     let p = b .args .p in
-    let o = c .before .before .before .before .before .before .before .before .open-at in
+    let o = c .before .before .before .before .before .before .before .before .before .open-at in
     let t = o .result in
-    let x0 = c .before .before .before .before .before .before .before .num-of in
-    let x1 = c .before .before .before .before .before .before .part-of in
-    let x2 = c .before .before .before .before .before .part-of2 in
-    let x3 = c .before .before .before .before .read-auth in
+    let x0 = c .before .before .before .before .before .before .before .before .num-of in
+    let x1 = c .before .before .before .before .before .before .before .part-of in
+    let x2 = c .before .before .before .before .before .before .part-of2 in
+    let x3 = c .before .before .before .before .auth-in in
     let x6 = c .before .is-one in
     let x7 = c .all-of in (
       sealed-law s p (x0 .result) (x1 .result) (x2 .result) (x3 .result) (x6 .result) (x7 .result) (b .pre .1)
           (x0 .ensures k.Message (bytesAt s p) (level-at k.Message s p t (o .ensures) (b .pre)) refl)
-          (sub-at k.Message s p t (o .ensures) (b .pre) 5 k.HmacAuth refl (x1 .result) (x1 .ensures))
+          (x1 .ensures .here k.Message k.HmacAuth (level-at k.Message s p t (o .ensures) (b .pre)) refl)
           (x2 .ensures .bytes k.Message (level-at k.Message s p t (o .ensures) (b .pre)) refl)
-          (x3 .ensures .0) (x3 .ensures .1) (x3 .ensures .2) (x6 .ensures) (x7 .ensures),
-      record { hmac = x3 .ensures .2; command = x2 .ensures .lies },
+          (x3 .ensures) (x6 .ensures) (x7 .ensures),
+      record { hmac = x3 .ensures .lies; command = x2 .ensures .lies },
     )
 
 pub read-sealed-spec : {M : Type 1} → statement M
@@ -59,7 +67,8 @@ read-sealed-spec =
     num-of-requires
     part-of-requires
     part-of-requires-2
-    read-auth-requires
+    sent-twice-requires
+    auth-in-requires
     is-one-requires
     all-of-requires
     returns)

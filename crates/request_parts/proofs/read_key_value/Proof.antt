@@ -4,7 +4,7 @@ use mathlib.Core.Path.{refl}
 use borrow.Author.Needs.{needs}
 use Rattle.tree.specs.declared.Kind.the-variants as k
 use Rattle.lookups.proofs.Levels.{level-at, part-at, sized-at}
-use Rattle.request_parts.proofs.Levels.{algorithm-law, key-value-law}
+use Rattle.request_parts.proofs.Levels.{key-value-law}
 use Rattle.request_parts.proofs.read_key_value.Statement.{statement}
 use Rattle.request_parts.proofs.read_key_value.Tie as tie
 
@@ -45,16 +45,8 @@ returns c =
     let x3 = c .before .before .before .part-of4 in
     let x4 = c .before .before .num-of in
     let x5 = c .before .num-of2 in
-    let x6 = c .num-of3 in (
-      key-value-law s p t (level-at k.KeyValue s p t (o .ensures) (b .pre)) (x0 .result) (x1 .result) (x2 .result) (x3 .result) (x4 .result) (x5 .result) (x6 .result) (x0 .ensures) (x1 .ensures) (x2 .ensures) (x3 .ensures) (x4 .ensures) (x5 .ensures) (x6 .ensures),
-      record {
-        version = x0 .ensures .lies;
-        key = x1 .ensures .lies;
-        expected = x2 .ensures .lies;
-        tag = x3 .ensures .lies;
-        algorithm = algorithm-law s p t (level-at k.KeyValue s p t (o .ensures) (b .pre)) (x4 .result) (x4 .ensures);
-      },
-    )
+    let x6 = c .num-of3 in
+    key-value-law s p t (level-at k.KeyValue s p t (o .ensures) (b .pre)) (x0 .result) (x1 .result) (x2 .result) (x3 .result) (x4 .result) (x5 .result) (x6 .result) (x0 .ensures) (x1 .ensures) (x2 .ensures) (x3 .ensures) (x4 .ensures) (x5 .ensures) (x6 .ensures)
 
 pub read-key-value-spec : {M : Type 1} → statement M
 read-key-value-spec =

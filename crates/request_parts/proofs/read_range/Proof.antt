@@ -41,10 +41,8 @@ returns c =
     let x2 = c .before .before .before .num-of in
     let x3 = c .before .before .num-of2 in
     let x4 = c .before .num-of3 in
-    let x5 = c .num-of4 in (
-      range-law s p t (level-at k.Range s p t (o .ensures) (b .pre)) (x0 .result) (x1 .result) (x2 .result) (x3 .result) (x4 .result) (x5 .result) (x0 .ensures) (x1 .ensures) (x2 .ensures) (x3 .ensures) (x4 .ensures) (x5 .ensures),
-      record { start = x0 .ensures .lies; end = x1 .ensures .lies },
-    )
+    let x5 = c .num-of4 in
+    range-law s p t (level-at k.Range s p t (o .ensures) (b .pre)) (x0 .result) (x1 .result) (x2 .result) (x3 .result) (x4 .result) (x5 .result) (x0 .ensures) (x1 .ensures) (x2 .ensures) (x3 .ensures) (x4 .ensures) (x5 .ensures)
 
 pub read-range-spec : {M : Type 1} → statement M
 read-range-spec =

@@ -1,28 +1,30 @@
-use native.Mathlib.Omega.{arith}
-use mathlib.Core.Path.{sym}
+use mathlib.Core.Path.{refl}
+use borrow.Author.Needs.{needs}
 use Rattle.tree.specs.declared.Kind.the-variants as k
-use Rattle.lookups.proofs.Slotted.{lies-no, nil-at}
-use Rattle.requests.proofs.Levels.{no-reads}
+use Rattle.lookups.proofs.Slotted.{lies-no, no-sub}
 use Rattle.requests.proofs.no_body.Statement.{statement}
 use Rattle.requests.proofs.no_body.Tie as tie
 
+no-key-value-requires : tie.Need-no-key-value-requires
+no-key-value-requires c κs = search needs
+
+no-range-requires : tie.Need-no-range-requires
+no-range-requires c κs = search needs
+
 returns : tie.Need-returns
-returns c s =
-    let l = lies-no s in
-    record {
-      entry = record { version = l; key = l; expected = l; tag = l; algorithm = omega arith };
-      range = record { start = l; end = l };
-      log = l;
-      logReads = no-reads k.GetLog s;
-      security = l;
-      reads = no-reads k.Security s;
-      key = sym (nil-at s);
-      start = sym (nil-at s);
-      end = sym (nil-at s);
-    }
+returns c s = record {
+  keyed = refl;
+  entry = c .before .no-key-value .ensures s;
+  ranged = refl;
+  range = c .no-range .ensures s;
+  changed = refl;
+  cluster = refl;
+  logged = refl;
+  secured = refl;
+  lies = lies-no s;
+  reads = no-sub k.Security s .reads;
+  security = λ n. no-sub k.Security s;
+}
 
 pub no-body-spec : {M : Type 1} → statement M
-no-body-spec =
-    tie.close
-    (tie.spec
-    returns)
+no-body-spec = tie.close (tie.spec no-key-value-requires no-range-requires returns)

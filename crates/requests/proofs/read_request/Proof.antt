@@ -3,8 +3,7 @@ use native.Mathlib.Omega.{arith}
 use borrow.Author.Needs.{needs}
 use Rattle.tree.specs.declared.Kind.the-variants as k
 use mathlib.Core.Path.{sym, ap, _∙_}
-use Rattle.tree.specs.Tree.{isSome, listed, mapO}
-use Rattle.protocol.specs.Command.{commandOf}
+use Rattle.tree.specs.Tree.{isSome, listed}
 use Rattle.lookups.proofs.Slotted.{whole-bytes}
 use Rattle.requests.proofs.Levels.{unread}
 use Rattle.requests.proofs.read_request.Statement.{statement}
@@ -16,13 +15,10 @@ reads-requires c κs = search needs
 read-command-requires : tie.Need-read-command-requires
 read-command-requires c κs =
     let s = now (c .before .before .before .args .s) in
-    (omega arith, ap (λ m. isSome (listed k.Command m)) (whole-bytes s) ∙ sym (c .before .reads .ensures) ∙ c .if1 .taken)
+    (omega arith, ap (λ m. isSome (listed k.Command m)) (whole-bytes s) ∙ sym (c .before .reads .ensures) ∙ c .if1 .taken, whole-bytes s)
 
 returns : tie.Need-returns
-returns c =
-    let s = now (c .before .before .before .before .args .s) in
-    let r = c .read-command .ensures in
-    (r .0 ∙ ap (λ m. mapO commandOf (listed k.Command m)) (whole-bytes s), r .1)
+returns c = c .read-command .ensures
 
 no-request-requires : tie.Need-no-request-requires
 no-request-requires c κs = search needs

@@ -5,8 +5,8 @@ use borrow.Author.Needs.{needs}
 use Rattle.tree.specs.declared.Kind.the-variants as k
 use Rattle.lookups.specs.Views.{bytesAt}
 use Rattle.lookups.proofs.Levels.{level-at, sized-at}
-use Rattle.requests.proofs.read_setup.Statement.{statement}
-use Rattle.requests.proofs.read_setup.Tie as tie
+use Rattle.merged_parts.proofs.read_setup.Statement.{statement}
+use Rattle.merged_parts.proofs.read_setup.Tie as tie
 
 open-at-requires : tie.Need-open-at-requires
 open-at-requires c κs = search needs

@@ -1,0 +1,67 @@
+use denote.Ref.{now}
+use borrow.Author.Tests.{not-true, not-false}
+use mathlib.Core.Path.{refl}
+use Rattle.tree.specs.Tree.{Tree, done, subAt, treeIn}
+use Rattle.tree.specs.declared.Kind.the-variants as k
+use Rattle.lookups.specs.Views.{bytesAt, treeOf, After}
+use Rattle.repeated_fields.specs.Joined.{Joins, joins-start, joins-empty, joins-end, joins-reads, joins-on, after-none, after-more}
+use Rattle.log_types.specs.Types.{BodyTypes}
+use Rattle.log_types.proofs.all_types.Statement.{statement}
+use Rattle.log_types.proofs.all_types.Tie as tie
+
+abbrev Inv-loop : tie.InvT-loop
+Inv-loop s before left₀ mask₀ left mask = Joins (λ (t : Tree). After BodyTypes mask₀ mask t) k.Body 2 s left (treeIn (subAt 2 (treeOf k.Command (bytesAt s left₀))))
+
+abbrev μ-loop : tie.MeasureT-loop
+μ-loop s before left₀ mask₀ left mask = left .len
+
+loop-holds : tie.Need-loop-holds Inv-loop μ-loop
+loop-holds c =
+    let z = c .before in
+    let s = now (z .args .s) in
+    let b = z .args .before in
+    joins-start (λ (t : Tree). After BodyTypes b b t) k.Body k.Command 2 s (z .args .p) (z .pre .0) (z .pre .1) refl done (after-none BodyTypes b)
+
+next-part-requires : tie.Need-next-part-requires Inv-loop μ-loop
+next-part-requires c κs = c .before .before .loop .inv .inside
+
+returns : tie.Need-returns Inv-loop μ-loop
+returns c =
+    let x = c .before .next-part in
+    joins-end (c .before .before .before .before .loop .inv) (x .result) (x .ensures) (not-true _ (c .if2 .taken))
+
+body-types-requires : tie.Need-body-types-requires Inv-loop μ-loop
+body-types-requires c κs =
+    let x = c .before .next-part in
+    joins-reads (c .before .before .before .before .loop .inv) (x .result) (x .ensures) (not-false _ (c .if2 .left))
+
+loop-less : tie.Need-loop-less Inv-loop μ-loop
+loop-less c = let e = c .before .before in e .before .next-part .ensures .shorter (not-false _ (e .if2 .left))
+
+loop-again : tie.Need-loop-again Inv-loop μ-loop
+loop-again c =
+    let e = c .before .before in
+    let x = e .before .next-part in
+    let o = e .before .before .before .before in
+    let z = o .before .before in
+    let s = now (z .args .s) in
+    let r = c .before .body-types in
+    joins-on (o .loop .inv) (x .result) (x .ensures) (not-false _ (e .if2 .left)) (λ (t : Tree). After BodyTypes (z .args .before) (r .result) t)
+    (λ u q. after-more BodyTypes (z .args .before) (o .loop .mask) (r .result) (treeOf k.Body (bytesAt s (x .result .part))) u (r .ensures) q)
+
+returns-2 : tie.Need-returns-2 Inv-loop μ-loop
+returns-2 c = joins-empty (c .before .before .loop .inv) (c .if1 .left)
+
+pub all-types-spec : {M : Type 1} → statement M
+all-types-spec =
+    tie.close
+    (tie.spec
+    Inv-loop
+    μ-loop
+    loop-holds
+    next-part-requires
+    returns
+    body-types-requires
+    loop-less
+    loop-again
+    returns-2)
