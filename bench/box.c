@@ -1,4 +1,5 @@
-/* The box of document 01 in plain C, written from the documents: what the proved box is compared with and measured against.
+/* The box of document 01 with change requests 1, 5 and 6 of document 02 in plain C, written from the documents: what the proved box is compared
+   with and measured against.
 
    Temperatures are turned with the compiler's float: each step must be rounded to f32 by itself. So the float must be evaluated in its own width
    (x86-64 does), no two steps may be made one (the scripts pass -ffp-contract=off), and no flag may change arithmetic. */
@@ -327,22 +328,22 @@ static int next(bytes *m, field *f) {
     return 1;
 }
 
-/* Singular listed fields, of numbers below 32: `seen` has a bit for each that was met. */
-static int once(const field *f, uint32_t wire, uint32_t *seen) {
-    uint32_t bit = 1u << f->number;
-    int good = f->wire == wire && !(*seen & bit);
-    *seen |= bit;
-    return good;
+static int has(uint32_t seen, uint32_t number) { return seen >> number & 1; }
+
+/* Listed fields, of numbers below 32: `seen` has a bit for each that was met. A value is read over the one before it. */
+static int met(const field *f, uint32_t wire, uint32_t *seen) {
+    *seen |= 1u << f->number;
+    return f->wire == wire;
 }
 
 static int read_bytes(const field *f, uint32_t *seen, bytes *to) {
     *to = f->data;
-    return once(f, 2, seen);
+    return met(f, 2, seen);
 }
 
 static int read_number(const field *f, uint32_t *seen, int64_t *to) {
     *to = (int64_t)f->value;
-    return once(f, 0, seen);
+    return met(f, 0, seen);
 }
 
 /* An int32, or an enum that is judged later. */
@@ -356,12 +357,10 @@ static int read_enum(const field *f, uint32_t *seen, int64_t *to, uint32_t named
 
 static int read_flag(const field *f, uint32_t *seen, int *to) {
     *to = f->value != 0;
-    return once(f, 0, seen);
+    return met(f, 0, seen);
 }
 
-static int has(uint32_t seen, int number) { return seen >> number & 1; }
-
-/* ---- Messages. Each reader says whether the message decodes; what it reads into starts as zeros. */
+/* ---- Messages. Each reader says whether an occurrence decodes, and reads it over what those before it left; before the first, that is zeros. */
 
 typedef struct {
     uint32_t seen;
@@ -431,7 +430,7 @@ typedef struct {
 static int read_range(bytes m, range *r) {
     field f = {0};
     int good;
-    r->most = MOST_KEYS;
+    if (!has(r->seen, 5)) r->most = MOST_KEYS;
     while (m.n) {
         if (!next(&m, &f)) return 0;
         switch (f.number) {
@@ -464,23 +463,23 @@ static int read_setup(bytes m, setup *s) {
 }
 
 typedef struct {
-    uint32_t types; /* a bit for each that is asked for */
+    uint32_t seen, types; /* types: a bit for each that is asked for */
 } log_request;
 
 static int read_log(bytes m, log_request *g) {
     field f = {0};
     while (m.n) {
-        uint32_t repeated = 0;
         int64_t type;
         if (!next(&m, &f)) return 0;
         if (f.number != 1) continue;
-        if (!read_enum(&f, &repeated, &type, LOG_TYPES)) return 0;
+        if (!read_enum(&f, &g->seen, &type, LOG_TYPES)) return 0;
         g->types |= 1u << type;
     }
     return 1;
 }
 
-/* The table that Security asks for, as it will stand in the record: written as long as no ACL rule is broken. */
+/* The table that Security asks for, as it will stand in the record: written as long as no ACL rule is broken. Inside Security nothing singular comes
+   twice, and every number is listed. */
 typedef struct {
     int good, sha1;
     uint8_t record[PLAIN_RECORD];
@@ -488,13 +487,12 @@ typedef struct {
 
 static int read_scope(bytes m, uint8_t *to, int *good) {
     field f = {0};
-    uint32_t seen = 0, count = 0, mask = 0;
+    uint32_t seen = 0, repeated = 0, count = 0, mask = 0;
     int64_t offset = 0, permission;
     bytes value = {0, 0};
     int tls = 0;
     while (m.n) {
-        uint32_t repeated = 0;
-        if (!next(&m, &f)) return 0;
+        if (!next(&m, &f) || f.number > 4 || has(seen, f.number)) return 0;
         if (f.number == 1) {
             if (!read_number(&f, &seen, &offset)) return 0;
         } else if (f.number == 2) {
@@ -504,7 +502,7 @@ static int read_scope(bytes m, uint8_t *to, int *good) {
             count++;
             if (in_set(permission, PERMISSIONS)) mask |= 1u << permission;
             else *good = 0;
-        } else if (f.number != 4 || !read_flag(&f, &seen, &tls)) return 0;
+        } else if (!read_flag(&f, &seen, &tls)) return 0;
     }
     if (count < 1 || count > 9 || offset < 0 || offset > 64 || value.n > 64) *good = 0;
     if (*good) {
@@ -525,17 +523,17 @@ static int read_acl(bytes m, uint8_t *to, table *t) {
     bytes key = {0, 0};
     uint8_t scopes = 0;
     while (m.n) {
-        if (!next(&m, &f)) return 0;
+        if (!next(&m, &f) || f.number > 4 || has(seen, f.number)) return 0;
         if (f.number == 1) {
             if (!read_number(&f, &seen, &identity)) return 0;
         } else if (f.number == 2) {
             if (!read_bytes(&f, &seen, &key)) return 0;
         } else if (f.number == 3) {
             if (!read_small(&f, &seen, &algorithm)) return 0;
-        } else if (f.number == 4) {
+        } else {
             if (scopes == 4) t->good = 0;
             if (f.wire != 2 || !read_scope(f.data, t->good ? to + 80 + scopes++ * SCOPE_PLACE : to, &t->good)) return 0;
-        } else return 0;
+        }
     }
     if (!has(seen, 1) || key.n < 1 || key.n > 64 || scopes < 1) t->good = 0;
     if (algorithm != 1) t->sha1 = 0;
@@ -565,7 +563,7 @@ static int read_security(bytes m, table *t) {
 
 typedef struct {
     header header;
-    uint32_t body; /* numbers that the body has */
+    uint32_t body; /* numbers that the bodies have */
     key_value key_value;
     range range;
     setup setup;
@@ -579,11 +577,11 @@ static int read_body(bytes m, command *c) {
         int good = 1;
         if (!next(&m, &f)) return 0;
         switch (f.number) {
-        case 1: good = once(&f, 2, &c->body) && read_key_value(f.data, &c->key_value); break;
-        case 2: good = once(&f, 2, &c->body) && read_range(f.data, &c->range); break;
-        case 3: good = once(&f, 2, &c->body) && read_setup(f.data, &c->setup); break;
-        case 6: good = once(&f, 2, &c->body) && read_log(f.data, &c->log); break;
-        case 7: good = once(&f, 2, &c->body) && read_security(f.data, c->table); break;
+        case 1: good = met(&f, 2, &c->body) && read_key_value(f.data, &c->key_value); break;
+        case 2: good = met(&f, 2, &c->body) && read_range(f.data, &c->range); break;
+        case 3: good = met(&f, 2, &c->body) && read_setup(f.data, &c->setup); break;
+        case 6: good = met(&f, 2, &c->body) && read_log(f.data, &c->log); break;
+        case 7: good = !has(c->body, 7) && met(&f, 2, &c->body) && read_security(f.data, c->table); break;
         case 4:
         case 8:
         case 9:
@@ -596,14 +594,13 @@ static int read_body(bytes m, command *c) {
 
 static int read_command(bytes m, command *c) {
     field f = {0};
-    uint32_t seen = 0;
     while (m.n) {
         int good = 1;
         if (!next(&m, &f)) return 0;
         switch (f.number) {
-        case 1: good = once(&f, 2, &seen) && read_header(f.data, &c->header); break;
-        case 2: good = once(&f, 2, &seen) && read_body(f.data, c); break;
-        case 3: good = once(&f, 2, &seen);
+        case 1: good = f.wire == 2 && read_header(f.data, &c->header); break;
+        case 2: good = f.wire == 2 && read_body(f.data, c); break;
+        case 3: good = f.wire == 2;
         }
         if (!good) return 0;
     }
@@ -617,7 +614,7 @@ int plain_decodes(const uint8_t *text, size_t n) {
 }
 
 typedef struct {
-    uint32_t seen, auth; /* numbers that the message has, and its HMACauth */
+    uint32_t seen, auth; /* numbers that the message has, and that its HMACauths have */
     int64_t auth_type, identity;
     bytes hmac, command;
 } message;
@@ -639,8 +636,8 @@ static int read_message(bytes m, message *to) {
         if (!next(&m, &f)) return 0;
         switch (f.number) {
         case 4: good = read_small(&f, &to->seen, &to->auth_type); break;
-        case 5: good = once(&f, 2, &to->seen) && read_auth(f.data, to); break;
-        case 6: good = once(&f, 2, &to->seen); break;
+        case 5: good = met(&f, 2, &to->seen) && read_auth(f.data, to); break;
+        case 6: good = f.wire == 2; break;
         case 7: good = read_bytes(&f, &to->seen, &to->command);
         }
         if (!good) return 0;

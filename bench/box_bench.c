@@ -13,16 +13,19 @@
 #else
 #include "../include/ridgeladle.h"
 #endif
-uint32_t fields_put(const uint8_t *command, size_t n, uint64_t held[16]);
+uint32_t fields_request(const uint8_t *command, size_t n, uint64_t held[16]);
 
 enum { ROUNDS = 4000, REPEAT = 4, ENTRIES = 128, STORE = ENTRIES * 512, KEY = 20 };
 
-/* A call to measure. */
+enum { WHOLE, CHECK, MAC, DECODING, OPENSSL, WHATS };
+
+/* A call to measure; the least time of each part of it, by Ridgeladle and by the plain box. */
 typedef struct {
     const char *name;
     text input, told, replied; /* told, replied: the commands of input and reply, empty where none is signed */
     uint32_t refusal;
     int closed;
+    double best[2][WHATS];
 } call;
 
 static uint8_t store[STORE], first_store[STORE], record[PLAIN_RECORD], first_record[PLAIN_RECORD];
@@ -87,6 +90,26 @@ static void framed(text *to, const text *c, int64_t auth_type, size_t value_len)
     frame(to, m.at, m.n, value, value_len);
 }
 
+/* Each field of a message and each message in it comes twice. */
+static void twice(text *m) { push(m, m->at, m->n); }
+
+/* A PUT with everything sent twice: in the message authType, HMACauth and commandBytes, in the command the rest. */
+static void put_twice(call *p, int i) {
+    text m;
+    put_of(&p->told, i);
+    twice(&p->told);
+    message(&m, 1, key, KEY, 1, p->told.at, p->told.n);
+    twice(&m);
+    frame(&p->input, m.at, m.n, value, sizeof value);
+}
+
+/* A NOOP with as many empty bodies. */
+static void bodies_of(call *b, int count) {
+    command(&b->told, 1, 1, 30, NULL, 0);
+    for (int i = 1; i < count; i++) bytes(&b->told, 2, NULL, 0);
+    framed(&b->input, &b->told, 1, 0);
+}
+
 /* ---- The state */
 
 /* Four temperatures, all in Fahrenheit, and two utilizations, with names of 16 bytes: the most that a log has to write. */
@@ -127,8 +150,6 @@ static void fill(void) {
 
 /* ---- Measuring */
 
-enum { WHOLE, CHECK, MAC, DECODING, OPENSSL, WHATS };
-
 static uint32_t answer(int plain, const call *m, int closed) {
     memcpy(connection, fresh, sizeof fresh);
     connection[9] = (uint8_t)closed;
@@ -146,7 +167,7 @@ static void once(int what, int plain, const call *m) {
         mac(plain, &m->told);
         mac(plain, &m->replied);
         break;
-    case DECODING: sink += plain ? (uint32_t)plain_decodes(m->told.at, m->told.n) : fields_put(m->told.at, m->told.n, held); break;
+    case DECODING: sink += plain ? (uint32_t)plain_decodes(m->told.at, m->told.n) : fields_request(m->told.at, m->told.n, held); break;
     default:
         HMAC(EVP_sha1(), key, KEY, m->told.at, m->told.n, digest, NULL);
         HMAC(EVP_sha1(), key, KEY, m->replied.at, m->replied.n, digest, NULL);
@@ -180,7 +201,7 @@ static void line(const char *side, const double *t, int is_signed) {
 
 /* Each in turn, many times over; the least time of each counts. */
 static void measure(call *m) {
-    double best[2][WHATS];
+    double(*best)[WHATS] = m->best;
     compare(m);
     for (int i = 0; i < 2 * WHATS; i++) best[i / WHATS][i % WHATS] = 1e18;
     for (int r = 0; r < ROUNDS; r++)
@@ -197,6 +218,31 @@ static void measure(call *m) {
     printf("\n");
     line("Ridgeladle", best[0], m->told.n > 0);
     line("plain C", best[1], m->told.n > 0);
+}
+
+static void ratio(const call *m, const call *of) {
+    printf("    times the time of %s:", of->name);
+    for (int plain = 0; plain < 2; plain++) {
+        const double *t = m->best[plain], *u = of->best[plain];
+        printf("   %s %.2f (less the check %.2f, decoding %.2f)", plain ? "plain C" : "Ridgeladle", t[WHOLE] / u[WHOLE],
+               (t[WHOLE] - t[CHECK]) / (u[WHOLE] - u[CHECK]), t[DECODING] / u[DECODING]);
+    }
+    printf("\n");
+}
+
+/* Fields that come again; `put` is measured already. */
+static void measure_repeated(const call *put) {
+    static call again = {.name = "the same PUT, everything sent twice"};
+    static call bodies[] = {{.name = "signed NOOP, 1,000 empty bodies"}, {.name = "signed NOOP, 2,000 empty bodies"},
+                            {.name = "signed NOOP, 4,000 empty bodies"}};
+    put_twice(&again, 64);
+    measure(&again);
+    ratio(&again, put);
+    for (int i = 0; i < 3; i++) {
+        bodies_of(&bodies[i], 1000 << i);
+        measure(&bodies[i]);
+        if (i) ratio(&bodies[i], &bodies[i - 1]);
+    }
 }
 
 int main(void) {
@@ -219,5 +265,6 @@ int main(void) {
     framed(&unsigned_.input, &get.told, 0, 0);
     call *all[] = {&put, &get, &range, &log, &more, &closed, &unsigned_};
     for (size_t i = 0; i < sizeof all / sizeof *all; i++) measure(all[i]);
+    measure_repeated(&put);
     return 0;
 }

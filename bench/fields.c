@@ -1,4 +1,4 @@
-/* Decoding a command: the proved code against nanopb, as ratios measured in one run. The first argument is a PUT in hex. */
+/* Decoding a command: the proved code against nanopb, as ratios measured in one run. The first argument is a PUT in hex, its header first. */
 #include "kinetic.pb.h"
 #include <pb_decode.h>
 #include <stdio.h>
@@ -8,18 +8,20 @@
 
 uint32_t fields_reads(const uint8_t *s, size_t n);
 uint32_t fields_put(const uint8_t *s, size_t n, uint64_t held[16]);
+uint32_t fields_request(const uint8_t *s, size_t n, uint64_t held[16]);
 
 enum { ROUNDS = 200, MOST = 8192 };
 
 static uint8_t command[MOST];
-static uint64_t held[16];
+static uint64_t held[16], asked[16];
 static Command decoded;
 
 typedef int call(size_t n);
 
-/* Decodes or not, at every depth; and the same with the values of a PUT taken out. */
+/* Decodes or not, at every depth; the same with the values of a PUT taken out; and as the box reads it, with all that a request has. */
 static int reads(size_t n) { return fields_reads(command, n) == 0; }
 static int ours(size_t n) { return fields_put(command, n, held) == 0; }
+static int request(size_t n) { return fields_request(command, n, asked) == 0; }
 
 static int nanopb(size_t n) {
     pb_istream_t s = pb_istream_from_buffer(command, n);
@@ -38,58 +40,106 @@ static double seconds(void) {
     return (double)t.tv_sec + 1e-9 * (double)t.tv_nsec;
 }
 
-/* Each call in turn, many times over; the least time of each counts. */
-static double measure(const char *name, size_t n, int repeat) {
-    call *calls[4] = {ours, reads, nanopb, nanopb_noinit};
-    double best[4] = {1e9, 1e9, 1e9, 1e9};
-    for (int r = 0; r < ROUNDS; r++)
-        for (int k = 0; k < 4; k++) {
-            double from = seconds();
-            for (int i = 0; i < repeat; i++)
-                if (!calls[k](n)) {
-                    printf("%s: call %d does not decode\n", name, k);
-                    exit(1);
-                }
-            double took = (seconds() - from) / repeat;
-            if (took < best[k]) best[k] = took;
+/* The least time of each call. */
+typedef struct {
+    double ours, reads, request, nanopb, noinit;
+} times;
+
+static double took(call *c, const char *name, size_t n, int repeat) {
+    double from = seconds();
+    for (int i = 0; i < repeat; i++)
+        if (!c(n)) {
+            printf("%s: does not decode\n", name);
+            exit(1);
         }
-    printf("%-31s %6.0f ns (%.0f to decode or not)   %4.2f times nanopb's time (%.0f ns)   %4.2f without its clearing (%.0f ns)\n", name,
-           1e9 * best[0], 1e9 * best[1], best[0] / best[2], 1e9 * best[2], best[0] / best[3], 1e9 * best[3]);
-    return best[0];
+    return (seconds() - from) / repeat;
 }
 
-/* The same values from both, or the times mean nothing. */
-static void compare(void) {
+static void least(double *best, double t) {
+    if (t < *best) *best = t;
+}
+
+/* Each call in turn, many times over. */
+static times measure(const char *name, size_t n, int repeat) {
+    times t = {1e9, 1e9, 1e9, 1e9, 1e9};
+    for (int r = 0; r < ROUNDS; r++) {
+        least(&t.ours, took(ours, name, n, repeat));
+        least(&t.reads, took(reads, name, n, repeat));
+        least(&t.request, took(request, name, n, repeat));
+        least(&t.nanopb, took(nanopb, name, n, repeat));
+        least(&t.noinit, took(nanopb_noinit, name, n, repeat));
+    }
+    printf("%-31s %6.0f ns (%.0f to decode or not, %.0f as a request)   %4.2f times nanopb's time (%.0f ns)   %4.2f without its clearing (%.0f ns)\n",
+           name, 1e9 * t.ours, 1e9 * t.reads, 1e9 * t.request, t.ours / t.nanopb, 1e9 * t.nanopb, t.ours / t.noinit, 1e9 * t.noinit);
+    return t;
+}
+
+static void ratio(const char *what, times t, times of) {
+    printf("%s: %.2f times the time (%.2f to decode or not, %.2f as a request)\n", what, t.ours / of.ours, t.reads / of.reads,
+           t.request / of.request);
+}
+
+static int differs(const uint64_t *t) {
     const Command_Header *h = &decoded.header;
     const Command_KeyValue *v = &decoded.body.keyValue;
-    if (held[1] != (uint64_t)h->connectionID || held[2] != (uint64_t)h->sequence || held[3] != (uint64_t)h->messageType ||
-        held[12] != (uint64_t)v->algorithm || held[7] != v->key.size || held[11] != v->tag.size) {
+    return t[1] != (uint64_t)h->connectionID || t[2] != (uint64_t)h->sequence || t[3] != (uint64_t)h->messageType ||
+           t[12] != (uint64_t)v->algorithm || t[7] != v->key.size || t[11] != v->tag.size;
+}
+
+/* The same values from all, or the times mean nothing. */
+static void compare(void) {
+    if (differs(held) || differs(asked)) {
         printf("the values differ\n");
         exit(1);
     }
 }
 
-static void unlisted(size_t n) {
-    for (size_t i = 0; i + 1 < n; i += 2) {
-        command[i] = 0x78;
-        command[i + 1] = 0x01;
+/* A field of two bytes, as often as it fits. */
+static void fill(size_t from, size_t to, uint8_t tag, uint8_t value) {
+    for (size_t i = from; i + 1 < to; i += 2) {
+        command[i] = tag;
+        command[i + 1] = value;
     }
 }
 
+/* Unlisted fields. */
+static void unlisted(void) {
+    fill(0, MOST, 0x78, 0x01);
+    times half = measure("4,096 bytes of unlisted fields", MOST / 2, 10);
+    times whole = measure("8,192 bytes of unlisted fields", MOST, 10);
+    ratio("twice the bytes", whole, half);
+}
+
+/* The PUT's header, and empty bodies. */
+static void bodies(size_t header) {
+    fill(header, MOST, 0x12, 0x00);
+    times quarter = measure("1,000 empty bodies", header + 2000, 10);
+    times half = measure("2,000 empty bodies", header + 4000, 10);
+    times whole = measure("4,000 empty bodies", header + 8000, 10);
+    ratio("2,000 for 1,000", half, quarter);
+    ratio("4,000 for 2,000", whole, half);
+}
+
 int main(int argc, char **argv) {
-    if (argc < 2) return 2;
-    size_t n = strlen(argv[1]) / 2;
-    for (size_t i = 0; i < n && i < MOST; i++) {
+    static uint8_t put[MOST / 2];
+    size_t n = argc < 2 ? 0 : strlen(argv[1]) / 2;
+    if (n < 2 || n > sizeof put) return 2;
+    for (size_t i = 0; i < n; i++) {
         char pair[3] = {argv[1][2 * i], argv[1][2 * i + 1], 0};
-        command[i] = (uint8_t)strtoul(pair, NULL, 16);
+        put[i] = (uint8_t)strtoul(pair, NULL, 16);
     }
     char name[64];
     snprintf(name, sizeof name, "PUT of %zu bytes", n);
-    measure(name, n, 500);
+    memcpy(command, put, n);
+    times once = measure(name, n, 500);
     compare();
-    unlisted(MOST);
-    double half = measure("4,096 bytes of unlisted fields", MOST / 2, 10);
-    double whole = measure("8,192 bytes of unlisted fields", MOST, 10);
-    printf("twice the bytes: %.2f times the time\n", whole / half);
+    unlisted();
+    /* The PUT twice: each field and each message that it has comes twice. */
+    memcpy(command, put, n);
+    memcpy(command + n, put, n);
+    times twice = measure("the PUT, everything sent twice", 2 * n, 500);
+    compare();
+    ratio("everything sent twice", twice, once);
+    bodies(2 + put[1]);
     return 0;
 }

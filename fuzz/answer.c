@@ -82,6 +82,7 @@ typedef struct {
     uint8_t out, form, value, type, step, identity, end, sides;
     uint8_t readings, readings_place, readings_change, bits[4];
     uint8_t report;
+    uint8_t again, cut[2];
 } choices;
 
 /* A store of 128 entries; a record as formatted, one of three ACLs, and the same with other bytes where the layout uses none; readings, all six; a
@@ -207,33 +208,73 @@ static range readings_of(const choices *c, uint8_t *to) {
     return (range){to, n};
 }
 
-/* The input: the rest of the fuzzer's bytes as they are; or as a message; or, signed, as a command, as a body, or as the part of a body that a
-   message type needs. */
-static range input_of(const choices *c, const uint8_t *rest, size_t n, text *to) {
+/* A further occurrence of a field, beside the one that the target writes. */
+enum { NOWHERE, IN_BODY, IN_COMMAND, IN_MESSAGE };
+
+typedef struct {
+    int in;
+    unsigned number; /* 0: fields as they are */
+    range content;
+    int after;
+} occurrence;
+
+/* None; or the first bytes of the rest as a part, body or header, as fields of the command, as HMACauth or commandBytes, or as fields of the message. */
+static occurrence again_of(const choices *c, unsigned part, range *rest) {
+    static const uint8_t in[] = {NOWHERE, IN_BODY, IN_COMMAND, IN_COMMAND, IN_COMMAND, IN_MESSAGE, IN_MESSAGE, IN_MESSAGE};
+    const unsigned numbers[] = {0, part, 2, 1, 0, 5, 7, 0};
+    int kind = c->again % 8;
+    occurrence o = {in[kind], numbers[kind], {rest->at, kind ? place_of(c->cut, rest->n + 1) : 0}, c->again >> 7};
+    rest->at += o.content.n;
+    rest->n -= o.content.n;
+    return o;
+}
+
+/* Puts the occurrence before the fields of a message or after them, where this is its place. */
+static void put_in(text *m, int in, const occurrence *o) {
+    static text fields;
+    if (o->in != in) return;
+    fields.n = 0;
+    push(&fields, m->at, m->n);
+    if (!o->after) m->n = 0;
+    if (o->number) bytes(m, o->number, o->content.at, o->content.n);
+    else push(m, o->content.at, o->content.n);
+    if (!o->after) push(m, fields.at, fields.n);
+}
+
+/* A message of the rest of the fuzzer's bytes: as they are; or, signed, as a command, as a body, or as the part of a body that a message type needs. */
+static const text *message_of(const choices *c, int form, range rest) {
     static const int types[] = {2, 4, 6, 8, 10, 12, 16, 22, 26, 30, 32, 24, -1, 3, 28, 42};
-    static const size_t values[] = {0, 0, 0, 1, 384, 385, 1024, 1025};
     static text body, told, signed_;
-    int type = types[c->type % 16], form = c->form % 5;
-    if (form == 0) {
-        to->n = 0;
-        push(to, rest, n);
-    } else {
-        int64_t identity = identities[c->identity % 4];
-        unsigned part = type == 12 ? 2 : type == 22 ? 3 : type == 24 ? 6 : type == 26 ? 7 : 1;
-        body.n = 0;
-        if (form == 4) bytes(&body, part, rest, n);
-        else push(&body, rest, n);
-        text *m = &body;
-        if (form >= 3) {
-            command(&told, NUMBER, (int64_t)(last_of(c) + (uint64_t)(int8_t)c->step), type, body.at, body.n);
-            m = &told;
-        }
-        if (form >= 2) {
-            message(&signed_, identity, key, c->identity & 0x80 ? 1 : KEY_LEN, 1, m->at, m->n);
-            m = &signed_;
-        }
-        frame(to, m->at, m->n, filling, values[c->value % 8]);
+    int type = types[c->type % 16];
+    unsigned part = type == 12 ? 2 : type == 22 ? 3 : type == 24 ? 6 : type == 26 ? 7 : 1;
+    occurrence again = again_of(c, part, &rest);
+    text *m = &body;
+    body.n = 0;
+    if (form == 4) bytes(&body, part, rest.at, rest.n);
+    else push(&body, rest.at, rest.n);
+    if (form >= 3) {
+        put_in(m, IN_BODY, &again);
+        command(&told, NUMBER, (int64_t)(last_of(c) + (uint64_t)(int8_t)c->step), type, m->at, m->n);
+        m = &told;
     }
+    if (form >= 2) {
+        put_in(m, IN_COMMAND, &again);
+        message(&signed_, identities[c->identity % 4], key, c->identity & 0x80 ? 1 : KEY_LEN, 1, m->at, m->n);
+        m = &signed_;
+    }
+    put_in(m, IN_MESSAGE, &again);
+    return m;
+}
+
+/* The input: the rest of the fuzzer's bytes, or a message of them in its frame; then cut, or with bytes after it. */
+static range input_of(const choices *c, range rest, text *to) {
+    static const size_t values[] = {0, 0, 0, 1, 384, 385, 1024, 1025};
+    int form = c->form % 5;
+    to->n = 0;
+    if (form) {
+        const text *m = message_of(c, form, rest);
+        frame(to, m->at, m->n, filling, values[c->value % 8]);
+    } else push(to, rest.at, rest.n);
     if (c->end & 0x80) push(to, filling, c->end & 0x7f);
     else to->n -= c->end < to->n ? c->end : to->n;
     return (range){to->at, to->n};
@@ -361,7 +402,7 @@ int LLVMFuzzerTestOneInput(const uint8_t *data, size_t size) {
     size -= sizeof c;
     for (size_t i = 0; i < sizeof out; i++) out[i] = (uint8_t)(i * 31 + 7);
     range state[PARTS] = {store_of(&c, store), record_of(&c, record), connection_of(&c, connection), readings_of(&c, readings),
-                          input_of(&c, data, size, &input), {out, outs[c.out % 4]}, {(uint8_t *)counts, sizeof counts}};
+                          input_of(&c, (range){(uint8_t *)(uintptr_t)data, size}, &input), {out, outs[c.out % 4]}, {(uint8_t *)counts, sizeof counts}};
     for (int i = 0; i < CALLS && call(state, c.sides, c.sides >> 7) == 0; i++) {
         state[INPUT].at += counts[0];
         state[INPUT].n -= counts[0];

@@ -1,7 +1,7 @@
 #!/usr/bin/env python3
 """seeds.py FOLDER: writes a seed corpus for fuzz/answer.c, with the encoder of conformance/model.py.
 
-A seed is the choices of answer.c, a byte or two each, and the bytes that they turn into an input.
+A seed is the choices of answer.c, a byte or two each, and the bytes that they turn into an input, those of a further occurrence (`other`) first.
 """
 import pathlib
 import sys
@@ -14,15 +14,17 @@ ORDER = ["GET", "PUT", "DELETE", "GETNEXT", "GETPREVIOUS", "GETKEYRANGE", "GETVE
 NO_STORE, BLANK, ENTRIES, FULL, DAMAGED, SEALED, LENGTH, MIXED = range(8)
 RAW, MESSAGE, COMMAND, BODY, PART = range(5)
 NO_VALUE, VALUE_384, VALUE_385 = 0, 4, 5
+NOT_AGAIN, PART_AGAIN, BODY_AGAIN, HEADER_AGAIN, COMMAND_FIELDS, AUTH_AGAIN, COMMAND_BYTES_AGAIN, MESSAGE_FIELDS = range(8)
+AFTER = 0x80
 EVERY_READING, NO_READING, READING_VALUE, READING_DAMAGED, READINGS_LENGTH, READINGS_EMPTY = range(6)
 
 
 def seed(rest, form=PART, operation="GET", store=ENTRIES, blocks=3, entries=2, store_place=0, store_change=0, record=1, record_place=0,
          record_change=0, connection=0, last=0, out=0, value=NO_VALUE, step=1, identity=0, end=0, sides=0, readings=EVERY_READING,
-         readings_place=0, readings_change=0, bits=0, report=0):
+         readings_place=0, readings_change=0, bits=0, report=0, again=NOT_AGAIN, other=b""):
     return bytes([store, blocks, entries, *store_place.to_bytes(2, "big"), store_change, record, *record_place.to_bytes(2, "big"), record_change,
                   connection, last, out, form, value, ORDER.index(operation), step, identity, end, sides, readings, readings_place, readings_change,
-                  *bits.to_bytes(4, "big"), report]) + rest
+                  *bits.to_bytes(4, "big"), report, again, *len(other).to_bytes(2, "big")]) + other + rest
 
 
 def key_values():
@@ -139,6 +141,63 @@ def rescues():
         yield seed(key, store=MIXED, blocks=6, entries=5, store_place=512 + place, store_change=1)
 
 
+# For an operation: the number of its part in a body, and two occurrences of that part with different values.
+TWO_PARTS = {
+    "GET": (1, message((3, b"key001"), (7, 1)), message((3, b"key000"), (7, 0))),
+    "PUT": (1, message((2, b"v" * 16), (3, b"key001"), (4, b"v1"), (5, b"tag"), (6, 2), (7, 1), (8, 1), (9, 1)),
+            message((2, b""), (3, b"key000"), (4, b"v0"), (5, b"t" * 32), (6, 6), (7, 0), (8, 0), (9, 3))),
+    "GETKEYRANGE": (2, message((1, b"key001"), (2, b"key001"), (3, 0), (4, 0), (5, 0), (6, 1)),
+                    message((1, b""), (2, b"z"), (3, 1), (4, 1), (5, 1), (6, 0))),
+    "SETUP": (3, message((1, 5)), message((1, 6))),
+    "GETLOG": (6, log(1, 2), log(2, 6)),
+    "SECURITY": (7, message((2, acl(1, b"k", scope(8)))), message((2, acl(2, b"l", scope(0))))),
+}
+
+
+def repeated():
+    for operation, (number, first, second) in TWO_PARTS.items():
+        for one, two in ((first, second), (second, first), (b"", second), (second, b"")):
+            yield seed(one + two, operation=operation)
+            yield seed(two, operation=operation, again=PART_AGAIN, other=one)
+            yield seed(two, operation=operation, again=BODY_AGAIN, other=field(number, one))
+            yield seed(two, operation=operation, again=BODY_AGAIN | AFTER, other=field(number, one))
+    key = message((3, b"key000"))
+    for operation in ("GET", "NOOP", "SECURITY"):
+        yield seed(field(7, b""), form=BODY, operation=operation, again=BODY_AGAIN, other=field(7, b""))
+        yield seed(b"", form=BODY, operation=operation, again=BODY_AGAIN, other=field(7, message((2, acl(1, b"k", scope(0))))))
+    for long in (b"x" * 65, b""):
+        yield seed(key, again=PART_AGAIN, other=message((3, long)))
+        yield seed(key, again=PART_AGAIN | AFTER, other=message((3, long)))
+    for refused in (field(6, 7), field(6, b""), field(9, 0), field(3, 1), b"\x1a\x05key"):
+        for after in (0, AFTER):
+            yield seed(TWO_PARTS["PUT"][2], operation="PUT", again=PART_AGAIN | after, other=refused)
+    for fields in ([(1, 1), (1, 1)], [(2, b"k"), (2, b"k")], [(3, 1), (3, 1)]):
+        yield seed(message((2, acl(1, b"k", scope(0)) + message(*fields))), operation="SECURITY")
+    for fields in ([(1, 0), (1, 0)], [(2, b""), (2, b"")], [(4, 0), (4, 1)]):
+        yield seed(message((2, acl(1, b"k", scope(0) + message(*fields)))), operation="SECURITY")
+
+
+def repeated_around():
+    key, command = message((3, b"key000")), message((1, header_of(NUMBER, 1, TYPES["NOOP"])))
+    headers = [header_of(9, 9, TYPES["PUT"], cluster=1), header_of(NUMBER, 5, TYPES["GETVERSION"], cluster=0), message((4, -1)), b"",
+               message((6, 1), (9, 1), (10, 1), (12, 1), (13, 1)) * 2, message((12, 2)), message((14, 1)), message((7, 1 << 31)), b"\x20"]
+    auths = [message((1, 99), (2, b"\1" * 20)), message((1, 3)), message((2, b"")), b"", message((1, 3), (1, 1)), b"\x08", field(2, 1)]
+    for after in (0, AFTER):
+        for header in headers:
+            yield seed(key, again=HEADER_AGAIN | after, other=header)
+        for auth in auths:
+            yield seed(key, again=AUTH_AGAIN | after, other=auth)
+        for earlier in (b"", b"\xff", command):
+            yield seed(key, again=COMMAND_BYTES_AGAIN | after, other=earlier)
+        for fields in (field(4, 1), field(4, 3), field(4, 1 << 31), field(4, b""), field(6, b"pin") * 2, field(7, 0)):
+            yield seed(key, again=MESSAGE_FIELDS | after, other=fields)
+        for fields in (field(3, b"status") * 2, field(3, 1), field(15, 1), field(2, b"") * 4000):
+            yield seed(key, again=COMMAND_FIELDS | after, other=fields)
+    for one, two in ((headers[0], headers[1]), (message((3, NUMBER), (7, TYPES["NOOP"])), message((4, 1))), (b"\x18", b"\x07")):
+        yield seed(message((1, one), (15, b"between"), (1, two)), form=COMMAND)
+        yield seed(message((1, one + field(15, 1) + two)), form=COMMAND)
+
+
 def limits():
     command = message((1, header_of(NUMBER, 1, TYPES["NOOP"])))
     for length in (8192, 8193):
@@ -162,7 +221,7 @@ def limits():
 def main():
     folder = pathlib.Path(sys.argv[1])
     folder.mkdir(parents=True, exist_ok=True)
-    for part in (key_values, ranges, logs, tables, others, states, rescues, limits):
+    for part in (key_values, ranges, logs, tables, others, states, rescues, repeated, repeated_around, limits):
         for n, data in enumerate(part()):
             (folder / f"{part.__name__}-{n:02}").write_bytes(data)
 
