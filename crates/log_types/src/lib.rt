@@ -6,7 +6,7 @@ ghost use Rattle.tree.specs.Tree.{among, subAt, treeIn};
 ghost use Rattle.lookups.specs.Views.{After, Inside, Reads, bytesAt, treeOf};
 ghost use Rattle.merged_parts.specs.Types.{logTypes};
 ghost use Rattle.protocol.specs.Judge.{typesGood};
-ghost use Rattle.log_types.specs.Types.{BodyTypes, LogTypes, TypesAre};
+ghost use Rattle.log_types.specs.Types.{LogTypes, TypesAre};
 use lookups::parts::Part;
 use permission_mask::with_bit;
 use repeated_fields::next_num;
@@ -59,44 +59,27 @@ fn logs_in(s: &[u8], p: Part, before: u16) -> u16
     mask
 }
 
-// The same, of the body.
-fn body_types(s: &[u8], p: Part, before: u16) -> u16
-    requires { ⌜ Inside (now s) p × Reads (Kind.Body) (bytesAt (now s) p) ⌝ }
-    ensures { λ r. ⌜ After BodyTypes before r (treeOf (Kind.Body) (bytesAt (now (s .entry)) p)) ⌝ }
+// The types that the command asks for, in all its bodies.
+pub fn log_types(s: &[u8]) -> u16
+    requires { ⌜ Reads (Kind.Command) (now s) ⌝ }
+    ensures { λ r. ⌜ TypesAre (logTypes (now (s .entry))) r ⌝ }
 {
-    logs_in(s, p, before)
-}
-
-// The types before and those of every body of the command in the part p.
-fn all_types(s: &[u8], p: Part, before: u16) -> u16
-    requires { ⌜ Inside (now s) p × Reads (Kind.Command) (bytesAt (now s) p) ⌝ }
-    ensures { λ r. ⌜ After BodyTypes before r (treeIn (subAt 2 (treeOf (Kind.Command) (bytesAt (now (s .entry)) p)))) ⌝ }
-{
-    let mut left = p;
-    let mut mask = before;
+    let mut left = Part {
+        has: true,
+        start: 0,
+        len: s.len(),
+    };
+    let mut mask = 0;
     while 0 < left.len {
         let x = next_part(s, left, 2);
         let has = x.part.has;
         if !has {
             return mask;
         }
-        mask = body_types(s, x.part, mask);
+        mask = logs_in(s, x.part, mask);
         left = x.rest;
     }
     mask
-}
-
-// The types that the command asks for.
-pub fn log_types(s: &[u8]) -> u16
-    requires { ⌜ Reads (Kind.Command) (now s) ⌝ }
-    ensures { λ r. ⌜ TypesAre (logTypes (now (s .entry))) r ⌝ }
-{
-    let whole = Part {
-        has: true,
-        start: 0,
-        len: s.len(),
-    };
-    all_types(s, whole, 0)
 }
 
 // Is there a type, and none of 3, 4 and 5?
