@@ -17,15 +17,15 @@ demo:
 
 # The proved programs: a day at a site, and the outside vectors, with a line for each saying what was compared.
 programs:
-	rt check site_main signature_main fields_main writers_main store_main rescue_main readings_main verdicts
-	tests/compare.py site_main "conformance/model.py, from document 01"
-	tests/compare.py fields_main "protoc's bytes and lines worked out by tests/fields.py"
-	tests/compare.py writers_main "protoc's bytes"
-	tests/compare.py store_main "tests/store_expected.py, from the table of blocks"
-	tests/compare.py rescue_main "tests/rescue.py, from the table of blocks and change request 6"
-	tests/compare.py readings_main "tests/readings.py, with exact fractions"
-	tests/compare.py verdicts "docs/VERDICTS.md"
-	target/bin/signature_main > target/signature_vectors.txt
+	rt check program_site program_signature program_fields program_writers program_store program_rescue program_readings program_permission
+	tests/compare.py program_site "conformance/model.py, from document 01"
+	tests/compare.py program_fields "protoc's bytes and lines worked out by tests/fields.py"
+	tests/compare.py program_writers "protoc's bytes"
+	tests/compare.py program_store "tests/store_expected.py, from the table of blocks"
+	tests/compare.py program_rescue "tests/rescue.py, from the table of blocks and change request 6"
+	tests/compare.py program_readings "tests/readings.py, with exact fractions"
+	tests/compare.py program_permission "docs/VERDICTS.md"
+	target/bin/program_signature > target/signature_vectors.txt
 	tests/signature_vectors.py --compare target/signature_vectors.txt
 
 bench:

@@ -4,15 +4,15 @@
 set -eu
 cd "$(dirname "$0")/.."
 mkdir -p target/bench
-rt staticlib fields_export >/dev/null
+rt staticlib bench_fields >/dev/null
 if [ "${PLAIN_TWICE:-}" ]; then
     side=-DPLAIN_TWICE
 else
     tests/staticlib
-    side=target/staticlib/libabi.a
+    side=target/staticlib/libc_abi.a
     clang -O2 -Wall -Wextra -o target/bench/stack bench/stack.c $side -lpthread
     target/bench/stack
 fi
 clang -O3 -std=gnu99 -ffp-contract=off -Wall -Wextra -Wno-deprecated-declarations -o target/bench/box \
-    bench/box_bench.c bench/box.c bench/sha1.c $side target/staticlib/libfields_export.a -lcrypto
+    bench/box_bench.c bench/box.c bench/sha1.c $side target/staticlib/libbench_fields.a -lcrypto
 exec target/bench/box

@@ -8,7 +8,7 @@ if [ "${PLAIN_TWICE:-}" ]; then
     side=-DPLAIN_TWICE
 else
     tests/staticlib
-    side=target/staticlib/libabi.a
+    side=target/staticlib/libc_abi.a
 fi
 clang -O3 -std=gnu99 -ffp-contract=off -Wall -Wextra -o target/bench/rescue bench/rescue_bench.c bench/box.c bench/sha1.c $side
 exec target/bench/rescue

@@ -1,4 +1,4 @@
-/* How much stack the answering call takes: plays the frames of crates/site_main/stdin on a stack that was painted before, and looks how far
+/* How much stack the answering call takes: plays the frames of crates/program_site/stdin on a stack that was painted before, and looks how far
    the paint is gone. Prints the most for any call, less what an empty call takes. */
 #define _GNU_SOURCE
 #include <pthread.h>
@@ -45,7 +45,7 @@ static size_t unhex(const char *s, uint8_t *to, size_t room) {
 
 int main(int argc, char **argv) {
     static char line[40000], word[40000];
-    FILE *f = fopen(argc > 1 ? argv[1] : "crates/site_main/stdin", "r");
+    FILE *f = fopen(argc > 1 ? argv[1] : "crates/program_site/stdin", "r");
     if (!f) return 1;
     size_t most = 0, empty = touched(nothing);
     unsigned calls = 0, place, number, protected_, blocks;

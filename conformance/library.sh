@@ -4,4 +4,4 @@ set -eu
 cd "$(dirname "$0")/.."
 tests/staticlib
 mkdir -p target/conformance
-cc -shared -o target/conformance/libridgeladle.so -Wl,--whole-archive target/staticlib/libabi.a -Wl,--no-whole-archive
+cc -shared -o target/conformance/libridgeladle.so -Wl,--whole-archive target/staticlib/libc_abi.a -Wl,--no-whole-archive

@@ -6,7 +6,7 @@ tests/need clang clang
 tests/staticlib
 mkdir -p target/examples
 for cc in gcc clang; do
-    "$cc" -std=c99 -Wall -Wextra -Wpedantic -Werror -O2 -Iinclude -o "target/examples/box_$cc" examples/box.c target/staticlib/libabi.a
+    "$cc" -std=c99 -Wall -Wextra -Wpedantic -Werror -O2 -Iinclude -o "target/examples/box_$cc" examples/box.c target/staticlib/libc_abi.a
     "target/examples/box_$cc" | diff - examples/box.expected
     echo "$cc: examples/box.c, $(wc -l < examples/box.expected) lines as tests/box_expected.py works them out"
 done

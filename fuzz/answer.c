@@ -1,6 +1,6 @@
 /* Fuzzing of the answering call, and of local read and rescue on the store that it leaves: a libFuzzer target, built and run by fuzz/run.sh.
 
-   libabi.a is not instrumented, so AddressSanitizer does not see what it touches: each range lent to it lies between two inaccessible
+   libc_abi.a is not instrumented, so AddressSanitizer does not see what it touches: each range lent to it lies between two inaccessible
    pages, right before the one or right after the other, and a byte too many ends the run. The plain C box (bench/box.c) answers the same
    call on heap copies of the exact lengths, under AddressSanitizer. It is instrumented, so its branches lead the fuzzer; and both must
    leave the same bytes. */

@@ -9,7 +9,7 @@ if [ "${PLAIN_TWICE:-}" ]; then
     side=-DPLAIN_TWICE
 else
     tests/staticlib
-    side=target/staticlib/libabi.a
+    side=target/staticlib/libc_abi.a
 fi
 mkdir -p target/fuzz/corpus target/fuzz/found
 fuzz/seeds.py target/fuzz/seeds

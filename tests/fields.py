@@ -1,12 +1,12 @@
 #!/usr/bin/env python3
-"""What crates/fields_main is run on (its stdin) and must write (its stdout), and what crates/writers_main must write.
+"""What crates/program_fields is run on (its stdin) and must write (its stdout), and what crates/program_writers must write.
 
   tests/fields.py              writes these files
   tests/fields.py --check      says whether they are as this script makes them
   tests/fields.py --hex NAME   prints the bytes of a message of messages.txt
 
-Each line of fields_main's stdin is a kind, as two hex digits, and the bytes of a message of that kind, in hex. Each line of its stdout is what
-the message says: n=VALUE; a number, n:HEX; bytes, n#HEX; a float, n{..} a message, each occurrence in its place, or 'refused'. writers_main writes the
+Each line of program_fields's stdin is a kind, as two hex digits, and the bytes of a message of that kind, in hex. Each line of its stdout is what
+the message says: n=VALUE; a number, n:HEX; bytes, n#HEX; a float, n{..} a message, each occurrence in its place, or 'refused'. program_writers writes the
 messages of the list WRITTEN, in hex.
 
 The bytes come from `protoc --encode` for the messages of messages.txt, whose lines are worked out here from their text and from kinetic.proto;
@@ -22,7 +22,7 @@ sys.path.insert(0, os.path.join(HERE, "..", "conformance"))
 
 import protobuf
 
-# The kinds in fields_main's order, and protoc's names of those that stand inside another message.
+# The kinds in program_fields's order, and protoc's names of those that stand inside another message.
 KINDS = ["Message", "HmacAuth", "Command", "Header", "Body", "KeyValue", "Range", "Setup", "Security", "Acl", "Scope",
          "ReplyCommand", "ReplyBody", "ReplyRange", "Status"]
 INSIDE = {"HmacAuth": "Message.HMACauth", "Acl": "Command.Security.ACL", "Scope": "Command.Security.ACL.Scope",
@@ -256,7 +256,7 @@ RAW = [
 ]
 
 
-# What writers_main writes: a type of kinetic.proto, a message in text format, and its bytes where a paper gives them: the encoding page's 150,
+# What program_writers writes: a type of kinetic.proto, a message in text format, and its bytes where a paper gives them: the encoding page's 150,
 # "testing", embedded message and -2, and document 01's -1, W1 and W2.
 WRITTEN = [
     ("Command.Setup", "newClusterVersion: 150", "089601"),
@@ -286,9 +286,9 @@ def written():
 
 def made():
     cases = [(kind, bytes.fromhex(text), line) for kind, text, line in RAW] + [case[1:] for case in messages()]
-    return {"fields_main/stdin": "".join(f"{KINDS.index(kind):02x}{data.hex()}\n" for kind, data, _ in cases),
-            "fields_main/stdout": "".join(line + "\n" for _, _, line in cases),
-            "writers_main/stdout": "".join(written())}
+    return {"program_fields/stdin": "".join(f"{KINDS.index(kind):02x}{data.hex()}\n" for kind, data, _ in cases),
+            "program_fields/stdout": "".join(line + "\n" for _, _, line in cases),
+            "program_writers/stdout": "".join(written())}
 
 
 FIELDS, ENUMS = protobuf.proto()

@@ -1,18 +1,18 @@
 #!/usr/bin/env python3
-"""What crates/readings_main is run on (its stdin) and must write (its stdout).
+"""What crates/program_readings is run on (its stdin) and must write (its stdout).
 
   tests/readings.py           writes both files
   tests/readings.py --check   says whether they are as this script makes them
 
 Values are exact fractions. An f32 is rounded to by its definition: of all patterns the one whose value is nearest, found by halving over the patterns in
 order, at a tie the even one; from halfway past the largest on an infinity. Nothing here is taken from the program, and no float of Python's takes part.
-The layout of lent readings is the one stated in crates/readings/specs/Lent.antt.
+The layout of lent readings is the one stated in crates/log_readings/specs/Lent.antt.
 """
 import pathlib
 import sys
 from fractions import Fraction
 
-CRATE = pathlib.Path(__file__).resolve().parent.parent / "crates" / "readings_main"
+CRATE = pathlib.Path(__file__).resolve().parent.parent / "crates" / "program_readings"
 INFINITY = 0x7F800000
 SIGN = 0x80000000
 
@@ -132,7 +132,7 @@ def main():
     if sys.argv[1:] == ["--check"]:
         wrong = [name for name, data in files.items() if (CRATE / name).read_bytes() != data]
         if wrong:
-            sys.exit(f"readings_main: {' and '.join(wrong)} not as tests/readings.py makes it")
+            sys.exit(f"program_readings: {' and '.join(wrong)} not as tests/readings.py makes it")
         return
     for name, data in files.items():
         (CRATE / name).write_bytes(data)

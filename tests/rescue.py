@@ -1,5 +1,5 @@
 #!/usr/bin/env python3
-"""What crates/rescue_main is run on (its stdin) and must write (its stdout).
+"""What crates/program_rescue is run on (its stdin) and must write (its stdout).
 
   tests/rescue.py           writes both files
   tests/rescue.py --check   says whether they are as this script makes them
@@ -13,7 +13,7 @@ import random
 import re
 import sys
 
-CRATE = pathlib.Path(__file__).resolve().parent.parent / "crates" / "rescue_main"
+CRATE = pathlib.Path(__file__).resolve().parent.parent / "crates" / "program_rescue"
 BLOCK, MOST = 512, 128
 BLANK = bytes(BLOCK)
 
@@ -301,7 +301,7 @@ def main():
     if sys.argv[1:] == ["--check"]:
         wrong = [name for name, data in files.items() if (CRATE / name).read_bytes() != data]
         if wrong:
-            sys.exit(f"rescue_main: {' and '.join(wrong)} not as tests/rescue.py makes it")
+            sys.exit(f"program_rescue: {' and '.join(wrong)} not as tests/rescue.py makes it")
         return
     for name, data in files.items():
         (CRATE / name).write_bytes(data)

@@ -1,5 +1,5 @@
 #!/usr/bin/env python3
-"""The outside vectors of the signature part, and the comparison with what the program signature_main prints.
+"""The outside vectors of the signature part, and the comparison with what the program program_signature prints.
 
   signature_vectors.py --stdout          prints what the program must print
   signature_vectors.py --compare FILE    says for each line of FILE what it was compared with; exit 1 where one differs

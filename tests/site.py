@@ -1,5 +1,5 @@
 #!/usr/bin/env python3
-"""A day at a site: the events that crates/site_main is run on (its stdin), and what it must write (its stdout).
+"""A day at a site: the events that crates/program_site is run on (its stdin), and what it must write (its stdout).
 
   tests/site.py            writes both files
   tests/site.py --check    says whether they are as this script makes them
@@ -18,7 +18,7 @@ sys.path.insert(0, os.path.join(HERE, "..", "conformance"))
 import model
 from model import field, frame, header_of, message, signed
 
-CRATE = os.path.join(HERE, "..", "crates", "site_main")
+CRATE = os.path.join(HERE, "..", "crates", "program_site")
 HEAD = f"    No.  {'Time   Who       Asked':64}{'Answer':28}  Taken Written Entries  Reply, or its SHA-1\n"
 CODES = {code: name for name, code in model.STATUS.items()}
 NAMES = {number: name for name, number in model.REFUSALS.items()}
@@ -526,7 +526,7 @@ def main():
         path = os.path.join(CRATE, name)
         if sys.argv[1:] == ["--check"]:
             same = os.path.exists(path) and open(path).read() == text
-            print(f"site_main/{name}: {'same' if same else 'NOT THE SAME'}")
+            print(f"program_site/{name}: {'same' if same else 'NOT THE SAME'}")
             bad |= not same
         else:
             open(path, "w").write(text)

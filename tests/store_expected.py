@@ -1,5 +1,5 @@
 #!/usr/bin/env python3
-"""The output that crates/store_main must write, computed from the table of document 01, "Blocks", alone."""
+"""The output that crates/program_store must write, computed from the table of document 01, "Blocks", alone."""
 import zlib
 
 

@@ -1,8 +1,8 @@
 #!/usr/bin/env python3
-"""What the program `verdicts` must print, taken from the tables of docs/VERDICTS.md.
+"""What the program `program_permission` must print, taken from the tables of docs/VERDICTS.md.
 
     python3 tests/verdicts.py          writes it
-    python3 tests/verdicts.py --check  says whether crates/verdicts/stdout is it
+    python3 tests/verdicts.py --check  says whether crates/program_permission/stdout is it
 
 Each cell worked out by hand is also compared with document 01's rule, computed here from the page's table of scopes.
 """
@@ -56,8 +56,8 @@ def main():
             out.append(" ".join([identity, asked] + [f'"{n}"' for n in names] + [connection, cell]) + "\n")
     text = "".join(out)
     if sys.argv[1:] == ["--check"]:
-        same = (TOP / "crates" / "verdicts" / "stdout").read_text() == text
-        sys.exit(0 if same else "crates/verdicts/stdout is not what docs/VERDICTS.md says")
+        same = (TOP / "crates" / "program_permission" / "stdout").read_text() == text
+        sys.exit(0 if same else "crates/program_permission/stdout is not what docs/VERDICTS.md says")
     sys.stdout.write(text)
 
 

@@ -1,26 +1,26 @@
 // The box: the calls that hosts use. The answering call is here; the others stand in the crates that they are named from.
-use access::Record;
-use connections::Connection;
-pub use connections::connect;
-pub use formatting::Formatted;
-pub use formatting::format;
-use framing::Framed;
-pub use local::local_find;
-pub use local::local_read;
-pub use responses::Response;
+use access_record::Record;
+pub use device_format::Formatted;
+pub use device_format::format;
+pub use device_response::Response;
+use protocol_connection::Connection;
+pub use protocol_connection::connect;
+use request_frame::Framed;
+pub use store_local_read::local_find;
+pub use store_local_read::local_read;
 ghost use mathlib.Core.Path.{_≡_};
 ghost use mathlib.Core.Bool.{true};
 ghost use Prim.Native.Nat.{_≤_};
 ghost use lib.ListN.{length};
-ghost use Rattle.access.specs.Table.{tableGood};
-ghost use Rattle.access.specs.Record.{tableOf};
-ghost use Rattle.store.specs.Store.{Good};
+ghost use Rattle.access_record.specs.Table.{tableGood};
+ghost use Rattle.access_record.specs.Record.{tableOf};
+ghost use Rattle.store_layout.specs.Store.{Good};
 ghost use Rattle.protocol.specs.State.{lent};
 ghost use Rattle.protocol.specs.Frame.{frameOf};
 ghost use Rattle.protocol.specs.Answer.{serve};
 ghost use Rattle.protocol.specs.Box.{box, answers};
-ghost use Rattle.connections.specs.Means.{connectionOf};
-ghost use Rattle.responses.specs.Means.{called, afterwards};
+ghost use Rattle.protocol_connection.specs.Means.{connectionOf};
+ghost use Rattle.device_response.specs.Means.{called, afterwards};
 
 // The input answered, once no refusal but MORE and that of the readings is left.
 fn serve(
@@ -34,13 +34,13 @@ fn serve(
     requires { ⌜ (4096 ≤ length (now out)) × Good (now store) × (tableGood (tableOf (now device)) ≡ true) ⌝ }
     ensures { λ r. ⌜ called (connectionOf connection) (now (readings .entry)) r (now (store .exit)) (now (device .exit)) (now (out .exit)) ≡ afterwards (lent (now (store .entry)) (now (device .entry)) (now (readings .entry)) (connectionOf connection)) (now (out .entry)) (serve box (lent (now (store .entry)) (now (device .entry)) (now (readings .entry)) (connectionOf connection)) (length (now (input .entry))) (frameOf (now (input .entry)))) ⌝ }
 {
-    match framing::frame_at(input) {
+    match request_frame::frame_at(input) {
         Framed::More => Response::More,
         Framed::Closes => {
-            if !readings::good(readings) {
+            if !log_readings::good(readings) {
                 return Response::ReadingsBad;
             }
-            let r = closing::close(connection, out, 20);
+            let r = reply_send::close::close(connection, out, 20);
             let connection = r.connection;
             Response::Answered {
                 written: r.written,
@@ -49,12 +49,12 @@ fn serve(
             }
         }
         Framed::Whole { message, value } => {
-            if !readings::good(readings) {
+            if !log_readings::good(readings) {
                 return Response::ReadingsBad;
             }
             let m = 9 + message;
             let v = m + value;
-            let r = receiving::respond(
+            let r = device_message::respond(
                 store,
                 device,
                 readings,
@@ -90,7 +90,7 @@ pub fn answer(
     if !store_check::check(store) {
         return Response::StoreBad;
     }
-    if !record_check::record_good(device) {
+    if !access_check::record_good(device) {
         return Response::DeviceBad;
     }
     let closed = connection.closed;

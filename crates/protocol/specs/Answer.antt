@@ -5,8 +5,8 @@ use mathlib.Core.Option.{Option}
 use mathlib.Core.Bool.{Bool}
 use lib.ListN.{length}
 use lib.Dec.{ltb}
-use Rattle.wire.specs.Reader.{choose}
-use Rattle.tree.specs.Tree.{Tree}
+use Rattle.fields_wire.specs.Reader.{choose}
+use Rattle.fields_schema.specs.Tree.{Tree}
 use Rattle.protocol.specs.Frame.{Framing, more, closes, whole, frameOf}
 use Rattle.protocol.specs.Reading.{Reading, closing, undecodable, read, readingBy}
 

@@ -2,14 +2,14 @@
 use mathlib.Core.List.{List, []}
 use mathlib.Core.Option.{Option, none, some}
 use Prim.Native.Nat.{ℕ, _-_, _^_}
-use Rattle.tree.specs.Tree.{Tree, mapO}
-use Rattle.access.specs.Table as access
-use Rattle.access.specs.Table.{placeOf, tableGood}
-use Rattle.access.specs.declared.Found.{Found}
-use Rattle.access.specs.declared.Found.the-variants.{At, Nobody}
-use Rattle.store.specs.Store.{storeGood}
-use Rattle.readings.specs.Lent.{readingsGood}
-use Rattle.signature.specs.Hmac.{hmac}
+use Rattle.fields_schema.specs.Tree.{Tree, mapO}
+use Rattle.access_record.specs.Table as access
+use Rattle.access_record.specs.Table.{placeOf, tableGood}
+use Rattle.access_record.specs.declared.Found.{Found}
+use Rattle.access_record.specs.declared.Found.the-variants.{At, Nobody}
+use Rattle.store_layout.specs.Store.{storeGood}
+use Rattle.log_readings.specs.Lent.{readingsGood}
+use Rattle.signature_hmac.specs.Hmac.{hmac}
 use Rattle.protocol.specs.State.{State, table, closing}
 use Rattle.protocol.specs.Command.{Header, Command, commandOf}
 use Rattle.protocol.specs.Operation.{askedBy, replyType}

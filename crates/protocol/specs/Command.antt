@@ -4,7 +4,7 @@ use mathlib.Core.List.{List, [], _∷_}
 use mathlib.Core.Option.{Option, none, some}
 use Prim.Native.Nat.{ℕ}
 use lib.Dec.{eqb}
-use Rattle.tree.specs.Tree.{Tree, mapO, intAt, rawAt, subAt, intsAt, subsAt}
+use Rattle.fields_schema.specs.Tree.{Tree, mapO, intAt, rawAt, subAt, intsAt, subsAt}
 
 abbrev pub orElse : {A : Type 0} → A → Option A → A
 orElse a none = a

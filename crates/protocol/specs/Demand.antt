@@ -5,13 +5,13 @@ use mathlib.Core.Logic.{_⊎_}
 use mathlib.Core.List.{List, _++_}
 use mathlib.Core.Option.{some}
 use lib.ListN.{length}
-use Rattle.tree.specs.Tree.{Tree}
-use Rattle.tree.specs.PutIn.{Nothing, PutIn}
+use Rattle.fields_schema.specs.Tree.{Tree}
+use Rattle.fields_schema.specs.PutIn.{Nothing, PutIn}
 use Rattle.protocol.specs.Frame.{frame, Fits}
 use Rattle.protocol.specs.Reading.{readMessage, envelope, undecodable, read}
 use Rattle.protocol.specs.Answer.{Device, Outcome, refused, answered, reading, answer}
-use Rattle.tree.specs.declared.Kind.{Kind}
-use Rattle.tree.specs.declared.Kind.the-variants.{Message, HmacAuth, Command}
+use Rattle.fields_schema.specs.declared.Kind.{Kind}
+use Rattle.fields_schema.specs.declared.Kind.the-variants.{Message, HmacAuth, Command}
 
 -- in the message around it the commandBytes and the hmac are: Edited and Signed say by what, for those that count
 pub data Free : Kind → ℕ → List ℕ → List ℕ → Type 0 where

@@ -3,8 +3,8 @@ use Prim.Native.Nat.{ℕ, suc, _-_, _^_}
 use mathlib.Core.Path.{_≡_}
 use mathlib.Core.List.{List, [], _++_}
 use lib.ListN.{length}
-use Rattle.tree.specs.Tree.{Tree, done, int, sub}
-use Rattle.encoding.specs.Encode.{intO}
+use Rattle.fields_schema.specs.Tree.{Tree, done, int, sub}
+use Rattle.fields_encoding.specs.Encode.{intO}
 use Rattle.protocol.specs.Frame.{frame, Fits}
 use Rattle.protocol.specs.Reading.{undecodable, read}
 use Rattle.protocol.specs.State.{State}

@@ -5,22 +5,22 @@ use mathlib.Core.Path.{_≡_, refl, sym, ap, _∙_, subst₂}
 use mathlib.Core.List.{List, [], _∷_, _++_}
 use mathlib.Core.Option.{Option, some}
 use lib.ListN.{length, length-append}
-use Rattle.wire.specs.Wire.{varintIn, vint, vlen, field, valueOf, readField, fieldsIn, fieldsOf, Framed}
-use Rattle.tree.specs.Tree.{mapO, thenO, Tree, done, int, raw, sub, items, level, openAll, listedIn, listed}
-use Rattle.tree.specs.Rules.{ruleOf}
-use Rattle.tree.specs.PutIn.{Has, Holds, Replaces, Nothing, PutIn}
-use Rattle.tree.specs.PutInLaws.{put-in-same}
-use Rattle.tree.specs.declared.Kind.{Kind}
-use Rattle.tree.specs.declared.Kind.the-variants.{Message, HmacAuth, Command, Header, Body, KeyValue, Security}
-use Rattle.tree.specs.declared.Form.the-variants.{Bytes}
-use Rattle.encoding.specs.Encode.{intField, lenField, encode, FieldNumber, Fits, ends}
-use Rattle.encoding.specs.Cost.{encode-cost, int-length, len-length}
-use Rattle.encoding.specs.FitsLaws.{number, fit-int, fit-raw, fit-sub}
-use Rattle.encoding.specs.Back.{int-framed, len-framed, read-back}
-use Rattle.signature.specs.Hmac.{hmac}
-use Rattle.access.specs.Table.{findFrom, placeOf, aclOf, hostTable}
-use Rattle.access.specs.Record.{tableOf, tableBytes}
-use Rattle.access.specs.Readback.{table-back, host-good}
+use Rattle.fields_wire.specs.Wire.{varintIn, vint, vlen, field, valueOf, readField, fieldsIn, fieldsOf, Framed}
+use Rattle.fields_schema.specs.Tree.{mapO, thenO, Tree, done, int, raw, sub, items, level, openAll, listedIn, listed}
+use Rattle.fields_schema.specs.Rules.{ruleOf}
+use Rattle.fields_schema.specs.PutIn.{Has, Holds, Replaces, Nothing, PutIn}
+use Rattle.fields_schema.specs.PutInLaws.{put-in-same}
+use Rattle.fields_schema.specs.declared.Kind.{Kind}
+use Rattle.fields_schema.specs.declared.Kind.the-variants.{Message, HmacAuth, Command, Header, Body, KeyValue, Security}
+use Rattle.fields_schema.specs.declared.Form.the-variants.{Bytes}
+use Rattle.fields_encoding.specs.Encode.{intField, lenField, encode, FieldNumber, Fits, ends}
+use Rattle.fields_encoding.specs.Cost.{encode-cost, int-length, len-length}
+use Rattle.fields_encoding.specs.FitsLaws.{number, fit-int, fit-raw, fit-sub}
+use Rattle.fields_encoding.specs.Back.{int-framed, len-framed, read-back}
+use Rattle.signature_hmac.specs.Hmac.{hmac}
+use Rattle.access_record.specs.Table.{findFrom, placeOf, aclOf, hostTable}
+use Rattle.access_record.specs.Record.{tableOf, tableBytes}
+use Rattle.access_record.specs.Readback.{table-back, host-good}
 use Rattle.protocol.specs.Frame as framing
 use Rattle.protocol.specs.Frame.{frame}
 use Rattle.protocol.specs.State.{State}

@@ -5,10 +5,10 @@ use mathlib.Core.Path.{_≡_}
 use Prim.Native.Nat.{ℕ}
 use lib.Dec.{eqb}
 use lib.ListN.{length, replicate}
-use Rattle.wire.specs.Reader.{choose}
-use Rattle.access.specs.Table.{within, hostTable}
-use Rattle.access.specs.Record.{tableBytes}
-use Rattle.store.specs.Store.{sizeGood}
+use Rattle.fields_wire.specs.Reader.{choose}
+use Rattle.access_record.specs.Table.{within, hostTable}
+use Rattle.access_record.specs.Record.{tableBytes}
+use Rattle.store_layout.specs.Store.{sizeGood}
 
 -- 0, or the refusal: 2 STORE_BAD, then 6 KEY_BAD, "host key not 1 to 64 bytes"
 unfoldable pub formatRefusal : List ℕ → List ℕ → ℕ

@@ -7,9 +7,9 @@ use native.Mathlib.Omega.{arith}
 use lib.Dec.{leb}
 use lib.ListN.{length, replicate}
 use borrow.Author.Tests.{le-leb, lt-leb}
-use Rattle.access.specs.Table.{both, hostTable}
-use Rattle.access.specs.Record.{tableBytes}
-use Rattle.store.specs.Store.{sizeGood}
+use Rattle.access_record.specs.Table.{both, hostTable}
+use Rattle.access_record.specs.Record.{tableBytes}
+use Rattle.store_layout.specs.Store.{sizeGood}
 use Rattle.protocol.specs.Format.{formatRefusal, unlessRefused, Told}
 
 both-no : (x : Bool) → both x false ≡ false

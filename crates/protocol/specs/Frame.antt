@@ -8,7 +8,7 @@ use lib.ListN.{length, take, drop, getD, length-append}
 use lib.Seq.{take-at, drop-at, drop-drop}
 use lib.Dec.{leb, eqb}
 use borrow.Author.Tests.{le-leb}
-use Rattle.wire.specs.Reader.{choose}
+use Rattle.fields_wire.specs.Reader.{choose}
 
 -- four bytes, the highest first
 abbrev pub be4 : ℕ → List ℕ

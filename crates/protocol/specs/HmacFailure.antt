@@ -6,11 +6,11 @@ use mathlib.Core.List.{List, _++_}
 use mathlib.Core.Option.{Option, none, some}
 use lib.ListN.{length}
 use lib.Dec.{ltb}
-use Rattle.wire.specs.Reader.{choose}
-use Rattle.access.specs.Table.{tableGood}
-use Rattle.store.specs.Store.{storeGood}
-use Rattle.readings.specs.Lent.{readingsGood}
-use Rattle.signature.specs.Hmac.{hmac}
+use Rattle.fields_wire.specs.Reader.{choose}
+use Rattle.access_record.specs.Table.{tableGood}
+use Rattle.store_layout.specs.Store.{storeGood}
+use Rattle.log_readings.specs.Lent.{readingsGood}
+use Rattle.signature_hmac.specs.Hmac.{hmac}
 use Rattle.protocol.specs.Frame.{frame, Fits}
 use Rattle.protocol.specs.State as lent
 use Rattle.protocol.specs.State.{State, table}

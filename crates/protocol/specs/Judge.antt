@@ -5,23 +5,23 @@ use mathlib.Core.Option.{Option, none, some}
 use Prim.Native.Nat.{ℕ, _+_, _*_, _%_, _^_}
 use lib.Dec.{eqb, leb, ltb}
 use lib.ListN.{length, take, getD}
-use Rattle.wire.specs.Reader.{choose}
-use Rattle.tree.specs.Tree.{guard, isSome, among}
-use Rattle.access.specs.Table as access
-use Rattle.access.specs.Table.{both, either, all, within, sameBytes, named, maskOf, tableGood}
-use Rattle.access.specs.Record.{tableBytes, withClusterVersion}
-use Rattle.permission.specs.Permission.{permits, permitsAny, permitsRange}
-use Rattle.block.specs.Order.{cmp}
-use Rattle.block.specs.Block.{isLess, isEqual}
-use Rattle.block.specs.Entry.{Entry, entry, noEntry}
-use Rattle.store.specs.Store.{blocksIn, entriesOf}
-use Rattle.store.specs.Entries.{findIn, nextIn, previousIn, hasRoom, putStore, deleteStore}
-use Rattle.store.specs.declared.Found.{Found}
-use Rattle.store.specs.declared.Found.the-variants.{At, Gap}
-use Rattle.store.specs.declared.Place.{Place}
-use Rattle.store.specs.declared.Place.the-variants.{There, Nothing}
-use Rattle.binary32.specs.Binary32.{portion}
-use Rattle.readings.specs.Lent.{Sample, utilizations, temperatures, utilizationSample, temperatureSample}
+use Rattle.fields_wire.specs.Reader.{choose}
+use Rattle.fields_schema.specs.Tree.{guard, isSome, among}
+use Rattle.access_record.specs.Table as access
+use Rattle.access_record.specs.Table.{both, either, all, within, sameBytes, named, maskOf, tableGood}
+use Rattle.access_record.specs.Record.{tableBytes, withClusterVersion}
+use Rattle.access_permission.specs.Permission.{permits, permitsAny, permitsRange}
+use Rattle.store_block.specs.Order.{cmp}
+use Rattle.store_block.specs.Block.{isLess, isEqual}
+use Rattle.store_block.specs.Entry.{Entry, entry, noEntry}
+use Rattle.store_layout.specs.Store.{blocksIn, entriesOf}
+use Rattle.store_layout.specs.Entries.{findIn, nextIn, previousIn, hasRoom, putStore, deleteStore}
+use Rattle.store_layout.specs.declared.Found.{Found}
+use Rattle.store_layout.specs.declared.Found.the-variants.{At, Gap}
+use Rattle.store_layout.specs.declared.Place.{Place}
+use Rattle.store_layout.specs.declared.Place.the-variants.{There, Nothing}
+use Rattle.log_binary32.specs.Binary32.{portion}
+use Rattle.log_readings.specs.Lent.{Sample, utilizations, temperatures, utilizationSample, temperatureSample}
 use Rattle.protocol.specs.declared.Operation.{Operation}
 use Rattle.protocol.specs.declared.Operation.the-variants.{Noop, Get, GetVersion, GetNext, GetPrevious, GetKeyRange, Put, Delete, FlushAllData, Setup, GetLog, Security}
 use Rattle.protocol.specs.declared.Asked.{Asked}

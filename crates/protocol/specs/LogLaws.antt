@@ -5,9 +5,9 @@ use mathlib.Core.List.{List, [], _∷_}
 use mathlib.Core.Option.{Option, some}
 use Prim.Native.Nat.{ℕ}
 use lib.Dec.{eqb}
-use Rattle.wire.specs.Reader.{choose}
-use Rattle.tree.specs.Tree.{among}
-use Rattle.access.specs.Table.{both, either}
+use Rattle.fields_wire.specs.Reader.{choose}
+use Rattle.fields_schema.specs.Tree.{among}
+use Rattle.access_record.specs.Table.{both, either}
 use Rattle.protocol.specs.declared.Operation.the-variants.{GetLog}
 use Rattle.protocol.specs.State.{State}
 use Rattle.protocol.specs.Command.{Body}

@@ -5,11 +5,11 @@ use mathlib.Core.Path.{_≡_, refl, ap, ap₂, _∙_}
 use mathlib.Core.Bool.{Bool, true, false}
 use mathlib.Core.List.{List, [], _∷_, _++_, append-nil}
 use mathlib.Core.Option.{Option, none, some}
-use Rattle.tree.specs.Tree.{mapO, thenO, guard, isSome, Tree, done, int, raw, fix, sub, intAt, rawAt, fixAt, subAt, rawsAt, subsAt}
-use Rattle.encoding.specs.Encode.{intO, intIf, rawIf, floatBytes, fixO, each, subO, eachSub}
-use Rattle.encoding.specs.LookUps.{raw-here, int-past, int-here, intO-here, intO-past, intIf-here, rawIf-here, rawIf-past, int-rawIf, raw-intIf, each-here, fixO-here, raw-fixO, subO-here, sub-subO, subs-subO, eachSub-here, sub-eachSub, subs-eachSub}
+use Rattle.fields_schema.specs.Tree.{mapO, thenO, guard, isSome, Tree, done, int, raw, fix, sub, intAt, rawAt, fixAt, subAt, rawsAt, subsAt}
+use Rattle.fields_encoding.specs.Encode.{intO, intIf, rawIf, floatBytes, fixO, each, subO, eachSub}
+use Rattle.fields_encoding.specs.LookUps.{raw-here, int-past, int-here, intO-here, intO-past, intIf-here, rawIf-here, rawIf-past, int-rawIf, raw-intIf, each-here, fixO-here, raw-fixO, subO-here, sub-subO, subs-subO, eachSub-here, sub-eachSub, subs-eachSub}
 use lib.ListN.{getD}
-use Rattle.readings.specs.Lent.{Sample}
+use Rattle.log_readings.specs.Lent.{Sample}
 use Rattle.protocol.specs.Command.{orElse, mapL}
 use Rattle.protocol.specs.Judge.{Capacity, Log, ReplyBody, bare, keyValue, range, log}
 use Rattle.protocol.specs.Reply.{sampleTree, capacityTree, limitsTree, logTree, headerTree, bodyTree, statusTree, commandTree, closingCommand}

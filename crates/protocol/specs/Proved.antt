@@ -9,18 +9,18 @@ use mathlib.Core.Bool.{Bool, true, false}
 use lib.ListN.{length, length-append}
 use lib.Dec.{ltb, eqb}
 use borrow.Author.Tests.{eqb-true, eq-eqb}
-use Rattle.wire.specs.Reader.{choose}
-use Rattle.tree.specs.Tree.{thenO, Tree, intAt, rawAt, subAt}
-use Rattle.tree.specs.PutIn.{Nothing, PutIn, EqualBut, EqualButO}
-use Rattle.tree.specs.PutInLaws.{put-in-same, put-in-replaced}
-use Rattle.tree.specs.StrictLaws.{put-in-refused}
-use Rattle.tree.specs.EqualButLaws.{int-equal, RawsBut, raw-equal, SubsBut, sub-equal}
+use Rattle.fields_wire.specs.Reader.{choose}
+use Rattle.fields_schema.specs.Tree.{thenO, Tree, intAt, rawAt, subAt}
+use Rattle.fields_schema.specs.PutIn.{Nothing, PutIn, EqualBut, EqualButO}
+use Rattle.fields_schema.specs.PutInLaws.{put-in-same, put-in-replaced}
+use Rattle.fields_schema.specs.StrictLaws.{put-in-refused}
+use Rattle.fields_schema.specs.EqualButLaws.{int-equal, RawsBut, raw-equal, SubsBut, sub-equal}
 use Rattle.protocol.specs.Frame.{frame, Fits, frame-read}
 use Rattle.protocol.specs.Reading.{orEmpty, sameBytes, Envelope, envelope, sealed, isOne, envelopeOf, readMessage, sentOnce, decodes}
 use Rattle.protocol.specs.Reading.{Reading, closing, undecodable, read, decoded, verified, opened, readingBy}
 use Rattle.protocol.specs.Answer.{Reply, reply, Device, Outcome, refused, answered, taking, unlessRefused, reading, respond, unlessReadings, serve, answer}
 use Rattle.protocol.specs.Demand.{Free, Edited, SameBut, Signed, SameAnswer, StrangeAnswer}
-use Rattle.tree.specs.declared.Kind.the-variants.{Message}
+use Rattle.fields_schema.specs.declared.Kind.the-variants.{Message}
 
 clash : {A : Type 0} → _≡_ {A = ℕ} 0 1 → A
 clash e = absurd (omega arith)

@@ -3,8 +3,8 @@ use mathlib.Core.Path.{_≡_, ap}
 use mathlib.Core.Bool.{Bool, true, false}
 use mathlib.Core.List.{List}
 use Prim.Native.Nat.{ℕ}
-use Rattle.wire.specs.Reader.{choose}
-use Rattle.store.specs.Entries.{hasRoom, putStore}
+use Rattle.fields_wire.specs.Reader.{choose}
+use Rattle.store_layout.specs.Entries.{hasRoom, putStore}
 use Rattle.protocol.specs.State.{State}
 use Rattle.protocol.specs.Command.{KeyValue}
 use Rattle.protocol.specs.Judge.{fails, entryOf, versionRight, newEntry, changed, put}

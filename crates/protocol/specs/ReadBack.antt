@@ -7,15 +7,15 @@ use mathlib.Core.List.{List}
 use mathlib.Core.Option.{Option, none, some}
 use lib.ListN.{length}
 use lib.Dec.{ltb}
-use Rattle.wire.specs.Reader.{choose}
-use Rattle.tree.specs.Tree.{mapO, thenO, guard, Tree, listed, intAt, rawAt, subAt}
-use Rattle.tree.specs.declared.Kind.the-variants.{Message, Command as CommandKind}
-use Rattle.encoding.specs.Basics.{never}
-use Rattle.access.specs.Table as access
-use Rattle.access.specs.Table.{tableGood}
-use Rattle.store.specs.Store.{storeGood}
-use Rattle.readings.specs.Lent.{readingsGood}
-use Rattle.signature.specs.Hmac.{hmac}
+use Rattle.fields_wire.specs.Reader.{choose}
+use Rattle.fields_schema.specs.Tree.{mapO, thenO, guard, Tree, listed, intAt, rawAt, subAt}
+use Rattle.fields_schema.specs.declared.Kind.the-variants.{Message, Command as CommandKind}
+use Rattle.fields_encoding.specs.Basics.{never}
+use Rattle.access_record.specs.Table as access
+use Rattle.access_record.specs.Table.{tableGood}
+use Rattle.store_layout.specs.Store.{storeGood}
+use Rattle.log_readings.specs.Lent.{readingsGood}
+use Rattle.signature_hmac.specs.Hmac.{hmac}
 use Rattle.protocol.specs.declared.Operation.the-variants.{Noop, Get, GetVersion, GetNext, GetPrevious, GetKeyRange, Put, Delete, FlushAllData, Setup, GetLog, Security}
 use Rattle.protocol.specs.declared.Asked.{Asked}
 use Rattle.protocol.specs.declared.Asked.the-variants.{Request, NotBuilt}

@@ -5,9 +5,9 @@ use mathlib.Core.Option.{Option, none, some}
 use mathlib.Core.Bool.{Bool, true, false}
 use lib.Dec.{eqb, leb}
 use lib.ListN.{length}
-use Rattle.wire.specs.Reader.{choose}
-use Rattle.tree.specs.Tree.{Tree, thenO, guard, intAt, rawAt, subAt, treeIn, subsAt, listed}
-use Rattle.tree.specs.declared.Kind.the-variants.{Message, Command}
+use Rattle.fields_wire.specs.Reader.{choose}
+use Rattle.fields_schema.specs.Tree.{Tree, thenO, guard, intAt, rawAt, subAt, treeIn, subsAt, listed}
+use Rattle.fields_schema.specs.declared.Kind.the-variants.{Message, Command}
 
 -- absent bytes are empty
 abbrev pub orEmpty : Option (List ℕ) → List ℕ

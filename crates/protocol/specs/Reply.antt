@@ -2,11 +2,11 @@
 use mathlib.Core.List.{List, []}
 use mathlib.Core.Option.{Option}
 use Prim.Native.Nat.{ℕ}
-use Rattle.tree.specs.Tree.{mapO, guard, Tree, done, int, raw, fix, sub}
-use Rattle.encoding.specs.Encode.{encode, intO, intIf, rawIf, floatBytes, fixO, each, subO, eachSub}
-use Rattle.signature.specs.Hmac.{hmac}
+use Rattle.fields_schema.specs.Tree.{mapO, guard, Tree, done, int, raw, fix, sub}
+use Rattle.fields_encoding.specs.Encode.{encode, intO, intIf, rawIf, floatBytes, fixO, each, subO, eachSub}
+use Rattle.signature_hmac.specs.Hmac.{hmac}
 use Rattle.protocol.specs.Frame.{frame}
-use Rattle.readings.specs.Lent.{Sample}
+use Rattle.log_readings.specs.Lent.{Sample}
 use Rattle.protocol.specs.Command.{mapL}
 use Rattle.protocol.specs.Judge.{Capacity, Log, ReplyBody, bare, keyValue, range, log}
 

@@ -8,20 +8,20 @@ use mathlib.Core.Option.{Option, none, some}
 use lib.ListN.{length, length-append}
 use lib.Dec.{ltb}
 use borrow.Author.Tests.{ltb-true}
-use Rattle.tree.specs.Rules.{namesOf}
-use Rattle.tree.specs.Tree.{mapO, guard, isInt32, among, Tree, done, int, listed, rawAt}
-use Rattle.tree.specs.declared.Kind.{Kind}
-use Rattle.tree.specs.declared.Kind.the-variants.{Message, HmacAuth, Header, KeyValue, ReplyCommand, ReplyBody, ReplyRange, ReplyGetLog, Utilization, Temperature, Capacity, Limits, Status}
-use Rattle.tree.specs.declared.Names.the-variants.{Algorithm, StatusCode}
-use Rattle.encoding.specs.Encode.{encode, intIf, rawIf, floatBytes, fixO, each, subO, eachSub, FitsAfter, Fits, ends}
-use Rattle.encoding.specs.Cost.{cost, AtMost, CostMost, encode-cost, intO-cost, intIf-cost, rawIf-cost, fixO-cost, each-cost, subO-cost, eachSub-cost, total-most}
-use Rattle.encoding.specs.FitsLaws.{number, fit-int, fit-raw, fit-sub, fit-intO, fit-intIf, fit-rawIf, fit-fix, fit-fixO, fit-each, fit-subO, fit-eachSub, AllFit}
-use Rattle.encoding.specs.Back.{read-back}
-use Rattle.encoding.specs.Basics.{never, guarded}
-use Rattle.access.specs.Table.{both}
+use Rattle.fields_schema.specs.Rules.{namesOf}
+use Rattle.fields_schema.specs.Tree.{mapO, guard, isInt32, among, Tree, done, int, listed, rawAt}
+use Rattle.fields_schema.specs.declared.Kind.{Kind}
+use Rattle.fields_schema.specs.declared.Kind.the-variants.{Message, HmacAuth, Header, KeyValue, ReplyCommand, ReplyBody, ReplyRange, ReplyGetLog, Utilization, Temperature, Capacity, Limits, Status}
+use Rattle.fields_schema.specs.declared.Names.the-variants.{Algorithm, StatusCode}
+use Rattle.fields_encoding.specs.Encode.{encode, intIf, rawIf, floatBytes, fixO, each, subO, eachSub, FitsAfter, Fits, ends}
+use Rattle.fields_encoding.specs.Cost.{cost, AtMost, CostMost, encode-cost, intO-cost, intIf-cost, rawIf-cost, fixO-cost, each-cost, subO-cost, eachSub-cost, total-most}
+use Rattle.fields_encoding.specs.FitsLaws.{number, fit-int, fit-raw, fit-sub, fit-intO, fit-intIf, fit-rawIf, fit-fix, fit-fixO, fit-each, fit-subO, fit-eachSub, AllFit}
+use Rattle.fields_encoding.specs.Back.{read-back}
+use Rattle.fields_encoding.specs.Basics.{never, guarded}
+use Rattle.access_record.specs.Table.{both}
 use Rattle.protocol.specs.Frame.{frame, frameOf, whole, frame-read}
 use Rattle.protocol.specs.Judge as judging
-use Rattle.readings.specs.Lent.{Sample}
+use Rattle.log_readings.specs.Lent.{Sample}
 use Rattle.protocol.specs.Command.{mapL}
 use Rattle.protocol.specs.Judge.{Log, bare, keyValue, range, log}
 use Rattle.protocol.specs.Digest.{hmac-length}

@@ -7,9 +7,9 @@ use mathlib.Core.List.{List}
 use lib.Dec.{ltb}
 use lib.ListN.{length}
 use borrow.Author.Tests.{ltb-false}
-use Rattle.encoding.specs.Basics.{never}
-use Rattle.access.specs.Table.{tableGood}
-use Rattle.store.specs.Store.{storeGood}
+use Rattle.fields_encoding.specs.Basics.{never}
+use Rattle.access_record.specs.Table.{tableGood}
+use Rattle.store_layout.specs.Store.{storeGood}
 use Rattle.protocol.specs.Frame.{frameOf}
 use Rattle.protocol.specs.State.{State, table}
 use Rattle.protocol.specs.Answer.{Outcome, answered, unlessRefused, serve, answer}

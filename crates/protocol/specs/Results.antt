@@ -8,22 +8,22 @@ use mathlib.Core.Option.{Option, none, some}
 use lib.Dec.{eqb, leb}
 use lib.ListN.{length, take, getD}
 use borrow.Author.Tests.{leb-true}
-use Rattle.wire.specs.Reader.{choose}
-use Rattle.tree.specs.Tree.{guard, among}
-use Rattle.encoding.specs.Cost.{AtMost}
-use Rattle.encoding.specs.Basics.{never}
-use Rattle.access.specs.Table as access
-use Rattle.access.specs.Table.{both}
-use Rattle.block.specs.Entry.{Entry, noEntry, Fit}
-use Rattle.store.specs.Store.{blocksIn, AllFit, Good, storeGood}
-use Rattle.store.specs.Check.{store-decides}
-use Rattle.store.specs.Entries.{hasRoom, putStore, deleteStore, findIn, nextIn, previousIn}
-use Rattle.readings.specs.Lent.{Lent, Sample, placeAt, placesFrom, temperatures, utilizations, readingsGood, temperatureSample, utilizationSample}
-use Rattle.readings.specs.LentLaws.{Placed, name-bounds, good-temperatures, good-utilizations, temperatures-placed, utilizations-placed}
-use Rattle.store.specs.declared.Found.{Found}
-use Rattle.store.specs.declared.Found.the-variants.{At, Gap}
-use Rattle.store.specs.declared.Place.{Place}
-use Rattle.store.specs.declared.Place.the-variants.{There, Nothing}
+use Rattle.fields_wire.specs.Reader.{choose}
+use Rattle.fields_schema.specs.Tree.{guard, among}
+use Rattle.fields_encoding.specs.Cost.{AtMost}
+use Rattle.fields_encoding.specs.Basics.{never}
+use Rattle.access_record.specs.Table as access
+use Rattle.access_record.specs.Table.{both}
+use Rattle.store_block.specs.Entry.{Entry, noEntry, Fit}
+use Rattle.store_layout.specs.Store.{blocksIn, AllFit, Good, storeGood}
+use Rattle.store_layout.specs.Check.{store-decides}
+use Rattle.store_layout.specs.Entries.{hasRoom, putStore, deleteStore, findIn, nextIn, previousIn}
+use Rattle.log_readings.specs.Lent.{Lent, Sample, placeAt, placesFrom, temperatures, utilizations, readingsGood, temperatureSample, utilizationSample}
+use Rattle.log_readings.specs.LentLaws.{Placed, name-bounds, good-temperatures, good-utilizations, temperatures-placed, utilizations-placed}
+use Rattle.store_layout.specs.declared.Found.{Found}
+use Rattle.store_layout.specs.declared.Found.the-variants.{At, Gap}
+use Rattle.store_layout.specs.declared.Place.{Place}
+use Rattle.store_layout.specs.declared.Place.the-variants.{There, Nothing}
 use Rattle.protocol.specs.declared.Operation.{Operation}
 use Rattle.protocol.specs.declared.Operation.the-variants.{Noop, Get, GetVersion, GetNext, GetPrevious, GetKeyRange, Put, Delete, FlushAllData, Setup, GetLog, Security}
 use Rattle.protocol.specs.declared.Asked.{Asked}

@@ -9,7 +9,7 @@ use lib.ListN.{length, take, drop, getD, length-append, length-take, length-drop
 use lib.Seq.{drop-drop}
 use lib.Dec.{leb, eqb}
 use borrow.Author.Tests.{le-leb, lt-leb, eq-eqb, eqb-true, leb-true, leb-false}
-use Rattle.wire.specs.Reader.{choose}
+use Rattle.fields_wire.specs.Reader.{choose}
 use Rattle.protocol.specs.Frame.{be4, frame, num4, Framing, more, closes, whole, fits, frameOf, Fits, num-be4}
 
 abbrev pub Bytes : List ℕ → Type 0

@@ -3,10 +3,10 @@ use mathlib.Core.Bool.{Bool, true, false}
 use mathlib.Core.List.{List}
 use mathlib.Core.Option.{Option, none, some}
 use Prim.Native.Nat.{ℕ}
-use Rattle.access.specs.Table.{Table}
-use Rattle.access.specs.Record.{tableOf}
-use Rattle.block.specs.Entry.{Entry}
-use Rattle.store.specs.Store.{entriesOf}
+use Rattle.access_record.specs.Table.{Table}
+use Rattle.access_record.specs.Record.{tableOf}
+use Rattle.store_block.specs.Entry.{Entry}
+use Rattle.store_layout.specs.Store.{entriesOf}
 
 -- "Connect: connection number, protected or not; no sequence seen yet". Numbers are 64-bit words; last is the last accepted sequence
 pub record Connection : Type 0 where

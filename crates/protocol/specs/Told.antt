@@ -2,9 +2,9 @@
 use mathlib.Core.List.{List, []}
 use mathlib.Core.Option.{Option, none, some}
 use Prim.Native.Nat.{ℕ, _-_, _^_}
-use Rattle.tree.specs.Tree.{Tree}
-use Rattle.encoding.specs.Encode.{encode}
-use Rattle.access.specs.Table as access
+use Rattle.fields_schema.specs.Tree.{Tree}
+use Rattle.fields_encoding.specs.Encode.{encode}
+use Rattle.access_record.specs.Table as access
 use Rattle.protocol.specs.Frame.{Framing, more, closes, whole}
 use Rattle.protocol.specs.State.{State}
 use Rattle.protocol.specs.Command.{Command, commandOf}

@@ -3,8 +3,8 @@ use mathlib.Core.Path.{_≡_, refl}
 use mathlib.Core.List.{[], _∷_}
 use mathlib.Core.Option.{some}
 use mathlib.Core.Bool.{false}
-use Rattle.wire.specs.Wire.{varintIn, valueOf, readField, fieldsIn, fieldsOf}
-use Rattle.tree.specs.Tree.{mapO, done, sub, items, level, openAll, listedIn, listed}
+use Rattle.fields_wire.specs.Wire.{varintIn, valueOf, readField, fieldsIn, fieldsOf}
+use Rattle.fields_schema.specs.Tree.{mapO, done, sub, items, level, openAll, listedIn, listed}
 use Rattle.protocol.specs.Command.{commandOf}
 use Rattle.protocol.specs.Judge.{keyValueIn}
 use Rattle.protocol.specs.Reading.{securityOnce, decodes, readMessage, envelope}

@@ -7,15 +7,15 @@ use mathlib.Core.Option.{Option, none, some}
 use mathlib.Core.Bool.{Bool, true, false}
 use lib.ListN.{length, length-append}
 use borrow.Author.Tests.{lt-leb}
-use Rattle.wire.specs.Wire.{Field, fieldsOf}
-use Rattle.tree.specs.Tree.{mapO, thenO, guard, isSome, Tree, done, sub, listed, join, subAt, treeIn, subsAt}
-use Rattle.tree.specs.PutIn.{Holds}
-use Rattle.tree.specs.Merged.{sub-in, subs-join}
-use Rattle.tree.specs.Concat.{onceEach, occurrences, Sends}
-use Rattle.tree.specs.OptionLaws.{nothing-some}
-use Rattle.tree.specs.ConcatLaws.{listed-split}
-use Rattle.tree.specs.OccurrenceLaws.{held-framed, one-message, occurrence-decodes, once-twice, once-there, part-concat, part-once}
-use Rattle.tree.specs.declared.Kind.the-variants.{Command, Body, Security}
+use Rattle.fields_wire.specs.Wire.{Field, fieldsOf}
+use Rattle.fields_schema.specs.Tree.{mapO, thenO, guard, isSome, Tree, done, sub, listed, join, subAt, treeIn, subsAt}
+use Rattle.fields_schema.specs.PutIn.{Holds}
+use Rattle.fields_schema.specs.Merged.{sub-in, subs-join}
+use Rattle.fields_schema.specs.Concat.{onceEach, occurrences, Sends}
+use Rattle.fields_schema.specs.OptionLaws.{nothing-some}
+use Rattle.fields_schema.specs.ConcatLaws.{listed-split}
+use Rattle.fields_schema.specs.OccurrenceLaws.{held-framed, one-message, occurrence-decodes, once-twice, once-there, part-concat, part-once}
+use Rattle.fields_schema.specs.declared.Kind.the-variants.{Command, Body, Security}
 use Rattle.protocol.specs.Reading.{securityOnce, sentOnce, decodes}
 
 -- a command decodes where it is listed and the concatenation of its bodies is a body

@@ -7,19 +7,19 @@ use mathlib.Core.Option.{Option, none, some}
 use mathlib.Core.Bool.{Bool, true, false}
 use lib.ListN.{length}
 use lib.Dec.{ltb, eqb}
-use Rattle.wire.specs.Reader.{choose, Got, nothing, got, Reader, andThen, give, part}
-use Rattle.wire.specs.ReaderLaws.{then-got}
-use Rattle.wire.specs.WireLaws.{varint-below}
-use Rattle.wire.specs.Wire.{Value, vint, v64, vlen, v32, Field, field, varint, valueOf, readField, consO, thenFields, fieldsIn, fieldsOf}
-use Rattle.encoding.specs.Basics.{never}
-use Rattle.tree.specs.Rules.{namesOf, strictOf, ruleOf}
-use Rattle.tree.specs.Tree.{mapO, thenO, guard, isSome, among, isInt32, Content, cInt, cRaw, cFix, cMsg, Item, item, ofInt, ofBytes, ofFixed, decode, find, add, byRule, step, items, itemsO, level}
-use Rattle.tree.specs.Tree.{Tree, done, int, raw, fix, sub, openOne, openItem, openAll, listedIn, listed, later, intAt, join, joinO, subAt}
-use Rattle.tree.specs.declared.Kind.{Kind}
-use Rattle.tree.specs.declared.Form.{Form}
-use Rattle.tree.specs.declared.Form.the-variants.{Int64, Int32, Named, Flag, Bytes, Opaque, Float, Nested}
-use Rattle.tree.specs.declared.Rule.{Rule}
-use Rattle.tree.specs.declared.Rule.the-variants.{Unlisted, Refused, Once, Single, Repeated}
+use Rattle.fields_wire.specs.Reader.{choose, Got, nothing, got, Reader, andThen, give, part}
+use Rattle.fields_wire.specs.ReaderLaws.{then-got}
+use Rattle.fields_wire.specs.WireLaws.{varint-below}
+use Rattle.fields_wire.specs.Wire.{Value, vint, v64, vlen, v32, Field, field, varint, valueOf, readField, consO, thenFields, fieldsIn, fieldsOf}
+use Rattle.fields_encoding.specs.Basics.{never}
+use Rattle.fields_schema.specs.Rules.{namesOf, strictOf, ruleOf}
+use Rattle.fields_schema.specs.Tree.{mapO, thenO, guard, isSome, among, isInt32, Content, cInt, cRaw, cFix, cMsg, Item, item, ofInt, ofBytes, ofFixed, decode, find, add, byRule, step, items, itemsO, level}
+use Rattle.fields_schema.specs.Tree.{Tree, done, int, raw, fix, sub, openOne, openItem, openAll, listedIn, listed, later, intAt, join, joinO, subAt}
+use Rattle.fields_schema.specs.declared.Kind.{Kind}
+use Rattle.fields_schema.specs.declared.Form.{Form}
+use Rattle.fields_schema.specs.declared.Form.the-variants.{Int64, Int32, Named, Flag, Bytes, Opaque, Float, Nested}
+use Rattle.fields_schema.specs.declared.Rule.{Rule}
+use Rattle.fields_schema.specs.declared.Rule.the-variants.{Unlisted, Refused, Once, Single, Repeated}
 
 -- ---- readers
 

@@ -7,22 +7,22 @@ use mathlib.Core.List.{List, [], _∷_, _++_, append-nil, reverse}
 use mathlib.Core.Option.{none, some}
 use lib.ListN.{length, take, drop, getD, length-append}
 use lib.Seq.{take-nil}
-use Rattle.wire.specs.Reader.{choose}
-use Rattle.wire.specs.Varint.{varintUp}
-use Rattle.tree.specs.Tree.{Tree, done, int, raw}
-use Rattle.encoding.specs.Encode.{intField, lenField, encode, intO}
-use Rattle.signature.specs.Hmac.{hmac}
-use Rattle.access.specs.Table as access
-use Rattle.access.specs.Table.{both, either, sameBytes}
-use Rattle.permission.specs.Permission.{fitsAt, fits}
-use Rattle.block.specs.declared.Order.{Order}
-use Rattle.block.specs.declared.Order.the-variants.{Less, Equal, Greater}
-use Rattle.block.specs.Order.{cmp}
-use Rattle.block.specs.OrderLaws.{flip, cmp-flip}
-use Rattle.block.specs.Entry.{Entry, entry, noEntry}
-use Rattle.block.specs.Block.{fill, sumFrom, be32, head, body, block, isLess, isEqual}
-use Rattle.store.specs.Entries.{byOrder, nextFrom, nextIn, previousFrom, previousIn}
-use Rattle.store.specs.declared.Place.the-variants.{There}
+use Rattle.fields_wire.specs.Reader.{choose}
+use Rattle.fields_wire.specs.Varint.{varintUp}
+use Rattle.fields_schema.specs.Tree.{Tree, done, int, raw}
+use Rattle.fields_encoding.specs.Encode.{intField, lenField, encode, intO}
+use Rattle.signature_hmac.specs.Hmac.{hmac}
+use Rattle.access_record.specs.Table as access
+use Rattle.access_record.specs.Table.{both, either, sameBytes}
+use Rattle.access_permission.specs.Permission.{fitsAt, fits}
+use Rattle.store_block.specs.declared.Order.{Order}
+use Rattle.store_block.specs.declared.Order.the-variants.{Less, Equal, Greater}
+use Rattle.store_block.specs.Order.{cmp}
+use Rattle.store_block.specs.OrderLaws.{flip, cmp-flip}
+use Rattle.store_block.specs.Entry.{Entry, entry, noEntry}
+use Rattle.store_block.specs.Block.{fill, sumFrom, be32, head, body, block, isLess, isEqual}
+use Rattle.store_layout.specs.Entries.{byOrder, nextFrom, nextIn, previousFrom, previousIn}
+use Rattle.store_layout.specs.declared.Place.the-variants.{There}
 use Rattle.protocol.specs.declared.Operation.the-variants.{GetNext, GetPrevious, GetKeyRange}
 use Rattle.protocol.specs.Frame.{frame}
 use Rattle.protocol.specs.State.{State, table, entries}

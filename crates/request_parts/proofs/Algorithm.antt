@@ -7,17 +7,17 @@ use mathlib.Core.Option.{Option, none, some}
 use mathlib.Core.Bool.{Bool, true, false}
 use lib.Dec.{eqb}
 use borrow.Author.Tests.{eqb-true}
-use Rattle.wire.specs.Reader.{choose}
-use Rattle.wire.specs.Wire.{Value, vint, v64, vlen, v32}
-use Rattle.tree.specs.Rules.{namesOf}
-use Rattle.tree.specs.Tree.{guard, among, Content, cInt, decode, intAt}
-use Rattle.tree.specs.declared.Kind.the-variants.{KeyValue}
-use Rattle.tree.specs.declared.Names.the-variants.{Algorithm}
-use Rattle.tree.specs.declared.Form.the-variants.{Named}
-use Rattle.lookups.specs.Views.{Reads, treeOf}
-use Rattle.tree.specs.OptionLaws.{nothing-some}
-use Rattle.lookups.specs.LevelLaws.{Is, Decodes, all-more, level-all, level-decodes, level-of, intC, int-look}
-use Rattle.fields.specs.Slots.{findLast}
+use Rattle.fields_wire.specs.Reader.{choose}
+use Rattle.fields_wire.specs.Wire.{Value, vint, v64, vlen, v32}
+use Rattle.fields_schema.specs.Rules.{namesOf}
+use Rattle.fields_schema.specs.Tree.{guard, among, Content, cInt, decode, intAt}
+use Rattle.fields_schema.specs.declared.Kind.the-variants.{KeyValue}
+use Rattle.fields_schema.specs.declared.Names.the-variants.{Algorithm}
+use Rattle.fields_schema.specs.declared.Form.the-variants.{Named}
+use Rattle.fields_lookup.specs.Views.{Reads, treeOf}
+use Rattle.fields_schema.specs.OptionLaws.{nothing-some}
+use Rattle.fields_lookup.specs.LevelLaws.{Is, Decodes, all-more, level-all, level-decodes, level-of, intC, int-look}
+use Rattle.fields_decode.specs.Slots.{findLast}
 use Rattle.protocol.specs.Command.{orElse}
 
 abbrev Most : ℕ → List ℕ → Type 0

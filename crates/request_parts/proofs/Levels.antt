@@ -3,13 +3,13 @@ use Prim.Native.Nat.{ℕ, _≤_}
 use mathlib.Core.Path.{_≡_, refl, sym, subst}
 use mathlib.Core.List.{List}
 use mathlib.Core.Option.{Option}
-use Rattle.wire.specs.Reader.{choose}
-use Rattle.tree.specs.declared.Kind.the-variants as k
-use Rattle.fields.specs.declared.slots.Slots.{Slots}
-use Rattle.lookups.specs.Views.{treeOf, bytesAt, numView, Level, Lies, Merges, NumIs, PartIs}
-use Rattle.lookups.specs.LaterLaws.{num-later, part-later, later-is}
-use Rattle.lookups.specs.declared.parts.Num.{Num}
-use Rattle.lookups.specs.declared.parts.Part.{Part}
+use Rattle.fields_wire.specs.Reader.{choose}
+use Rattle.fields_schema.specs.declared.Kind.the-variants as k
+use Rattle.fields_decode.specs.declared.slots.Slots.{Slots}
+use Rattle.fields_lookup.specs.Views.{treeOf, bytesAt, numView, Level, Lies, Merges, NumIs, PartIs}
+use Rattle.fields_lookup.specs.LaterLaws.{num-later, part-later, later-is}
+use Rattle.fields_lookup.specs.declared.parts.Num.{Num}
+use Rattle.fields_lookup.specs.declared.parts.Part.{Part}
 use Rattle.protocol.specs.Command.{orElse}
 use Rattle.request_parts.proofs.Algorithm.{algorithm-most}
 use Rattle.request_parts.specs.Views.{HeaderIs, KeyValueIs, RangeIs}

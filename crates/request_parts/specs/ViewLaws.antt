@@ -2,7 +2,7 @@
 use Prim.Native.Nat.{ℕ}
 use mathlib.Core.Path.{_≡_, refl}
 use mathlib.Core.List.{List}
-use Rattle.tree.specs.Tree.{Tree}
+use Rattle.fields_schema.specs.Tree.{Tree}
 use Rattle.protocol.specs.Command.{headerOf, keyValueOf, rangeOf}
 use Rattle.request_parts.specs.Views.{headerView, keyValueView, rangeView, HeaderIs, KeyValueIs, RangeIs}
 use Rattle.request_parts.specs.declared.Header.{Header}

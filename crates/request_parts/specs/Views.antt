@@ -3,10 +3,10 @@
 use mathlib.Core.Path.{_≡_}
 use mathlib.Core.List.{List, []}
 use Prim.Native.Nat.{ℕ, _≤_}
-use Rattle.lookups.specs.Views.{numView, partView, Lies}
+use Rattle.fields_lookup.specs.Views.{numView, partView, Lies}
 use Rattle.protocol.specs.Command as c
 use Rattle.protocol.specs.Command.{orElse, flag}
-use Rattle.tree.specs.Tree.{Tree, intAt, rawAt}
+use Rattle.fields_schema.specs.Tree.{Tree, intAt, rawAt}
 use Rattle.request_parts.specs.declared.Header.{Header}
 use Rattle.request_parts.specs.declared.KeyValue.{KeyValue}
 use Rattle.request_parts.specs.declared.Range.{Range}

@@ -1,17 +1,17 @@
 // The header, the keyValue and the range of a command by value: what their fields say, and where their parts lie; and two of them merged.
 ghost use mathlib.Core.List.{List};
 ghost use Prim.Native.Nat.{ℕ};
-ghost use Rattle.tree.specs.Tree.{done};
-ghost use Rattle.lookups.specs.Views.{Inside, Merges, Reads, bytesAt, treeOf};
+ghost use Rattle.fields_schema.specs.Tree.{done};
+ghost use Rattle.fields_lookup.specs.Views.{Inside, Merges, Reads, bytesAt, treeOf};
 ghost use Rattle.request_parts.specs.Views.{HeaderIs, KeyValueIs, RangeIs};
-use lookups::parts::Num;
-use lookups::parts::Part;
-use lookups::parts::later_num;
-use lookups::parts::later_part;
-use lookups::parts::num_of;
-use lookups::parts::open_at;
-use lookups::parts::part_of;
-use tree::Kind;
+use fields_lookup::parts::Num;
+use fields_lookup::parts::Part;
+use fields_lookup::parts::later_num;
+use fields_lookup::parts::later_part;
+use fields_lookup::parts::num_of;
+use fields_lookup::parts::open_at;
+use fields_lookup::parts::part_of;
+use fields_schema::Kind;
 
 // clusterVersion, connectionID, sequence and messageType.
 pub struct Header {

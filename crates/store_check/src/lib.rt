@@ -3,10 +3,10 @@ ghost use mathlib.Core.Path.{_≡_};
 ghost use mathlib.Core.List.{[]};
 ghost use Prim.Native.Nat.{_*_};
 ghost use lib.ListN.{length};
-ghost use Rattle.block.specs.Decides.{Decides};
-ghost use Rattle.store.specs.Store.{blocksIn, storeGood};
-ghost use Rattle.store.specs.Check.{GoodFrom};
-use block::Order;
+ghost use Rattle.store_block.specs.Decides.{Decides};
+ghost use Rattle.store_layout.specs.Store.{blocksIn, storeGood};
+ghost use Rattle.store_layout.specs.Check.{GoodFrom};
+use store_block::Order;
 
 // Whether whole blocks meet every block rule, used ones first and their keys ascending.
 fn blocks_good(store: &[u8]) -> bool
@@ -20,15 +20,15 @@ fn blocks_good(store: &[u8]) -> bool
     let mut q: usize = 0;
     while i < n {
         if store[a] == 0 {
-            return block::zeros(&store[a..]);
+            return store_block::zeros(&store[a..]);
         }
         let e = a + 512;
-        if !block_check::good(&store[a..e]) {
+        if !store_block_codec::rules::good(&store[a..e]) {
             return false;
         }
         let ks = a + 8;
-        let ke = ks + block::wide(store[a + 1]);
-        match block::compare(&store[p..q], &store[ks..ke]) {
+        let ke = ks + store_block::wide(store[a + 1]);
+        match store_block::compare(&store[p..q], &store[ks..ke]) {
             Order::Less => {}
             Order::Equal => return false,
             Order::Greater => return false,
@@ -45,7 +45,7 @@ fn blocks_good(store: &[u8]) -> bool
 pub fn check(store: &[u8]) -> bool
     ensures { λ r. ⌜ r ≡ storeGood (now (store .entry)) ⌝ }
 {
-    if !store::size_good(store) {
+    if !store_layout::size_good(store) {
         return false;
     }
     blocks_good(store)

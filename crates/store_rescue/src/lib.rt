@@ -1,40 +1,4 @@
-// The rescue of a damaged store.
-use rescue::Rescued;
-ghost use mathlib.Core.Path.{_≡_};
-ghost use lib.ListN.{length};
-ghost use Rattle.store.specs.Store.{blocksIn};
-ghost use Rattle.store.specs.Size.{SizeGood};
-ghost use Rattle.rescue.specs.Rescue.{outcome, rescueOf, rescueNumber};
-ghost use Rattle.rescue.specs.Survey.{Surveyed};
-
-// Writes the report, and the numbers of the kept blocks in the order of their keys; answers how many there are.
-fn survey(store: &[u8], report: &mut [u8], order: &mut [u8]) -> usize
-    requires { ⌜ SizeGood (now store) × ((length (now report) ≡ blocksIn (now store)) × (length (now order) ≡ 128)) ⌝ }
-    ensures { λ r. ⌜ Surveyed (now (store .entry)) r (now (report .exit)) (now (order .exit)) ⌝ }
-{
-    let mut kept: usize = 0;
-    let mut i: usize = 0;
-    while i < report.len() {
-        let step = rescue::admit(store, order, kept, i);
-        report[i] = step.byte;
-        kept = step.kept;
-        i += 1;
-    }
-    kept
-}
-
-// Puts the sound blocks of a store in order, of equal keys the earliest, blanks all others, and reports what became of each.
-pub fn rescue(store: &mut [u8], report: &mut [u8]) -> Rescued
-    ensures { λ r. ⌜ outcome (rescueNumber r) (now (store .exit)) (now (report .exit)) ≡ rescueOf (now (store .entry)) (now (report .entry)) ⌝ }
-{
-    if !store::size_good(store) {
-        return Rescued::StoreBad;
-    }
-    if report.len() != store.len() / 512 {
-        return Rescued::ReportBad;
-    }
-    let mut order = [0u8; 128];
-    let kept = survey(store, report, &mut order);
-    block_moves::arrange(store, order, kept);
-    Rescued::Done
-}
+// One block judged: blank, its sum wrong, another rule broken, or sound. What a rescue of a damaged store answers, and what becomes of one block. The rescue of a damaged store.
+pub mod rescue;
+pub mod rule;
+pub mod state;

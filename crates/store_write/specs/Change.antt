@@ -7,19 +7,19 @@ use native.Mathlib.Omega.{arith}
 use lib.Dec.{ltb}
 use lib.ListN.{length, take, drop, replicate}
 use borrow.Author.Tests.{lt-ltb, le-ltb}
-use Rattle.block.specs.Entry.{Entry, entry, Fit}
-use Rattle.block.specs.Block.{block, decode, BlockGood, fitTest}
-use Rattle.block.specs.Decides.{agree, says-yes, says-no, fit-decides}
-use Rattle.block.specs.Written.{over}
-use Rattle.store.specs.declared.Found.{Found}
-use Rattle.store.specs.declared.Found.the-variants.{At, Gap}
-use Rattle.store.specs.declared.PutAnswer.{PutAnswer}
-use Rattle.store.specs.declared.PutAnswer.the-variants.{Stored, Full, Unfit}
-use Rattle.store.specs.declared.DeleteAnswer.the-variants.{Deleted, Missing}
-use Rattle.store.specs.Store.{blocksIn, bytesOf, entriesOf, Good}
-use Rattle.store.specs.Entries.{pick, findIn, putEntry, roomy, hasRoom, putAnswer, whenStored, putStore, deleteOf, deleteAnswer, deleteStore}
-use Rattle.store.specs.StoreLaws.{room, insertAt, replaceAt, removeAt, insert-bytes, replace-bytes, remove-bytes}
-use Rattle.store.specs.EntriesLaws.{in-gap, is-at}
+use Rattle.store_block.specs.Entry.{Entry, entry, Fit}
+use Rattle.store_block.specs.Block.{block, decode, BlockGood, fitTest}
+use Rattle.store_block.specs.Decides.{agree, says-yes, says-no, fit-decides}
+use Rattle.store_block.specs.Written.{over}
+use Rattle.store_layout.specs.declared.Found.{Found}
+use Rattle.store_layout.specs.declared.Found.the-variants.{At, Gap}
+use Rattle.store_layout.specs.declared.PutAnswer.{PutAnswer}
+use Rattle.store_layout.specs.declared.PutAnswer.the-variants.{Stored, Full, Unfit}
+use Rattle.store_layout.specs.declared.DeleteAnswer.the-variants.{Deleted, Missing}
+use Rattle.store_layout.specs.Store.{blocksIn, bytesOf, entriesOf, Good}
+use Rattle.store_layout.specs.Entries.{pick, findIn, putEntry, roomy, hasRoom, putAnswer, whenStored, putStore, deleteOf, deleteAnswer, deleteStore}
+use Rattle.store_layout.specs.StoreLaws.{room, insertAt, replaceAt, removeAt, insert-bytes, replace-bytes, remove-bytes}
+use Rattle.store_layout.specs.EntriesLaws.{in-gap, is-at}
 
 -- a block put in at a place, if one is blank
 unfoldable pub insertAnswer : List ℕ → PutAnswer

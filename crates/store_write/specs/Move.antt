@@ -5,7 +5,7 @@ use Prim.Native.Nat.{ℕ, suc, _+_, _-_, _≤_, _<_}
 use native.Mathlib.Omega.{arith}
 use lib.ListN.{length, take, drop, set, getD, length-drop}
 use lib.Seq.{length-take-le, getD-drop, take-suc, drop-cons}
-use Rattle.block.specs.Written.{over, over-more, over-front, over-low, over-high}
+use Rattle.store_block.specs.Written.{over, over-more, over-front, over-low, over-high}
 
 -- a turn upwards, from the last byte on
 pub up-more : (l m : List ℕ) (j e : ℕ) → 0 < j → j ≤ e → e + 512 ≤ length l → m ≡ over l (j + 512) (take (e - j) (drop j l))

@@ -3,16 +3,16 @@ use mathlib.Core.Path.{_≡_, sym, ap, _∙_}
 use mathlib.Core.Bool.{true}
 use lib.ListN.{length}
 use borrow.Author.Tests.{lt-ltb, le-ltb, not-true, not-false}
-use Rattle.store.specs.Store.{storeGood}
-use Rattle.store.specs.Check.{store-decides}
-use Rattle.access.specs.Table.{tableGood}
-use Rattle.access.specs.Record.{tableOf}
+use Rattle.store_layout.specs.Store.{storeGood}
+use Rattle.store_layout.specs.Check.{store-decides}
+use Rattle.access_record.specs.Table.{tableGood}
+use Rattle.access_record.specs.Record.{tableOf}
 use Rattle.protocol.specs.State.{State, lent}
-use Rattle.connections.specs.Means.{connectionOf}
+use Rattle.protocol_connection.specs.Means.{connectionOf}
 use Rattle.protocol.specs.Box.{box}
 use Rattle.protocol.specs.CallRefusals.{out-short, store-bad, device-bad, closed-before, not-refused}
-use Rattle.responses.specs.Means.{afterwards}
-use Rattle.responses.specs.Laws.{told-out-short, told-store-bad, told-device-bad, told-closed}
+use Rattle.device_response.specs.Means.{afterwards}
+use Rattle.device_response.specs.Laws.{told-out-short, told-store-bad, told-device-bad, told-closed}
 use borrow.Author.Needs.{needs}
 use Rattle.device.proofs.answer.Statement.{statement}
 use Rattle.device.proofs.answer.Tie as tie

@@ -4,14 +4,14 @@ use mathlib.Core.Bool.{true, false}
 use native.Mathlib.Omega.{arith}
 use lib.ListN.{length-take, length-drop}
 use borrow.Author.Tests.{not-true, not-false}
-use Rattle.readings.specs.Lent.{readingsGood}
+use Rattle.log_readings.specs.Lent.{readingsGood}
 use Rattle.protocol.specs.State.{State, lent}
 use Rattle.protocol.specs.Frame.{frameOf}
-use Rattle.connections.specs.Means.{connectionOf}
-use Rattle.framing.specs.declared.Framed.{Framed}
-use Rattle.framing.specs.declared.Framed.the-variants.{Whole}
-use Rattle.framing.specs.Framed.{framing, Inside}
-use Rattle.responses.specs.Laws.{more-due, closing-bad, whole-bad, closing-frame, whole-cut}
+use Rattle.protocol_connection.specs.Means.{connectionOf}
+use Rattle.request_frame.specs.declared.Framed.{Framed}
+use Rattle.request_frame.specs.declared.Framed.the-variants.{Whole}
+use Rattle.request_frame.specs.Framed.{framing, Inside}
+use Rattle.device_response.specs.Laws.{more-due, closing-bad, whole-bad, closing-frame, whole-cut}
 use borrow.Author.Needs.{needs}
 use Rattle.device.proofs.serve.Statement.{statement}
 use Rattle.device.proofs.serve.Tie as tie

@@ -1,6 +1,6 @@
 use native.Mathlib.Omega.{arith}
 use mathlib.Core.Path.{refl}
-use Rattle.lookups.proofs.Slotted.{lies-no}
+use Rattle.fields_lookup.proofs.Slotted.{lies-no}
 use Rattle.request_parts.proofs.no_key_value.Statement.{statement}
 use Rattle.request_parts.proofs.no_key_value.Tie as tie
 

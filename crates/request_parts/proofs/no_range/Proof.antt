@@ -1,5 +1,5 @@
 use mathlib.Core.Path.{refl}
-use Rattle.lookups.proofs.Slotted.{lies-no}
+use Rattle.fields_lookup.proofs.Slotted.{lies-no}
 use Rattle.request_parts.proofs.no_range.Statement.{statement}
 use Rattle.request_parts.proofs.no_range.Tie as tie
 

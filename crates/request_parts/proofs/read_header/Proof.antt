@@ -1,8 +1,8 @@
 use denote.Ref.{now}
 use native.Mathlib.Omega.{arith}
 use borrow.Author.Needs.{needs}
-use Rattle.tree.specs.declared.Kind.the-variants as k
-use Rattle.lookups.proofs.Levels.{level-at, sized-at}
+use Rattle.fields_schema.specs.declared.Kind.the-variants as k
+use Rattle.fields_lookup.proofs.Levels.{level-at, sized-at}
 use Rattle.request_parts.proofs.Levels.{header-law}
 use Rattle.request_parts.proofs.read_header.Statement.{statement}
 use Rattle.request_parts.proofs.read_header.Tie as tie

@@ -2,8 +2,8 @@ use denote.Ref.{now}
 use native.Mathlib.Omega.{arith}
 use mathlib.Core.Path.{refl}
 use borrow.Author.Needs.{needs}
-use Rattle.tree.specs.declared.Kind.the-variants as k
-use Rattle.lookups.proofs.Levels.{level-at, part-at, sized-at}
+use Rattle.fields_schema.specs.declared.Kind.the-variants as k
+use Rattle.fields_lookup.proofs.Levels.{level-at, part-at, sized-at}
 use Rattle.request_parts.proofs.Levels.{range-law}
 use Rattle.request_parts.proofs.read_range.Statement.{statement}
 use Rattle.request_parts.proofs.read_range.Tie as tie

@@ -4,10 +4,10 @@ use mathlib.Core.Path.{_≡_, _∙_, refl, sym, subst}
 use mathlib.Core.List.{List, []}
 use lib.ListN.{length, getD, take, drop, length-drop}
 use borrow.Author.Tests.{not-true, not-false}
-use Rattle.block.specs.Block.{BlockGood}
-use Rattle.block.specs.Decides.{says-yes, says-no, decides-by}
-use Rattle.store.specs.Store.{blocksIn}
-use Rattle.store.specs.Check.{GoodFrom, Turn, turn-in, turn-out, blank-decides, end-out, less-not-equal, less-not-greater}
+use Rattle.store_block.specs.Block.{BlockGood}
+use Rattle.store_block.specs.Decides.{says-yes, says-no, decides-by}
+use Rattle.store_layout.specs.Store.{blocksIn}
+use Rattle.store_layout.specs.Check.{GoodFrom, Turn, turn-in, turn-out, blank-decides, end-out, less-not-equal, less-not-greater}
 use borrow.Author.Needs.{needs}
 use Rattle.store_check.proofs.blocks_good.Statement.{statement}
 use Rattle.store_check.proofs.blocks_good.Tie as tie

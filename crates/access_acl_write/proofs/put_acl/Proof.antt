@@ -1,0 +1,48 @@
+use native.Mathlib.Omega.{arith}
+use Rattle.access_record.specs.Record.{wordBytes, halfBytes, aclHead}
+use Rattle.access_table_write.specs.Written.{word-next}
+use Rattle.access_record_bytes.specs.Wrote.{_then_}
+use borrow.Author.Needs.{needs}
+use Rattle.access_acl_write.proofs.put_acl.Statement.{statement}
+use Rattle.access_acl_write.proofs.put_acl.Tie as tie
+
+put-word-requires : tie.Need-put-word-requires
+put-word-requires c κs = search needs
+
+cast-t11 : tie.Need-cast-t11
+cast-t11 c = search needs
+
+slice-aggregate-put-bytes : tie.Need-slice-aggregate-put-bytes
+slice-aggregate-put-bytes c = search needs
+
+put-bytes-requires : tie.Need-put-bytes-requires
+put-bytes-requires c κs =
+    let w = c .before .before .before .before .put-word .ensures in
+    let n = word-next _ w in
+    omega arith
+
+put-filled-requires : tie.Need-put-filled-requires
+put-filled-requires c κs =
+    let w = c .before .before .before .before .before .before .before .before .put-word .ensures in
+    let n = word-next _ w in
+    let p = c .before .before .before .put-bytes .ensures in
+    (omega arith, c .before .before .before .before .before .before .before .before .before .before .before .before .pre .1)
+
+same-length : tie.Need-same-length
+same-length c = search needs
+
+returns : tie.Need-returns
+unfolding aclHead wordBytes halfBytes
+returns c = (c .before .before .before .before .before .before .before .before .before .before .before .put-word .ensures then c .before .before .before .before .before .before .put-bytes .ensures) then c .before .before .put-filled .ensures
+
+pub put-acl-spec : {M : Type 1} → statement M
+put-acl-spec =
+    tie.close
+    (tie.spec
+    put-word-requires
+    cast-t11
+    slice-aggregate-put-bytes
+    put-bytes-requires
+    put-filled-requires
+    same-length
+    returns)

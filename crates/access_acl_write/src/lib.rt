@@ -1,0 +1,67 @@
+// An ACL and its scopes written into the device record.
+ghost use mathlib.Core.Path.{_≡_};
+ghost use Prim.Native.Nat.{_+_, _<_, _≤_};
+ghost use lib.ListN.{length};
+ghost use Rattle.access_record.specs.Record.{scopeBytes, aclHead};
+ghost use Rattle.access_record_bytes.specs.Wrote.{Wrote};
+ghost use Rattle.access_table_write.specs.Write.{putAcl, putScope};
+use access_record::Record;
+use access_record_bytes::flag_of;
+use access_record_bytes::put_bytes;
+use access_record_bytes::put_filled;
+use access_record_bytes::put_word;
+
+fn put_acl(out: &mut [u8], at: usize, identity: u64, key: &[u8]) -> usize
+    requires { ⌜ (at + 80 ≤ length (now out)) × (length (now key) ≤ 64) ⌝ }
+    ensures { λ r. ⌜ Wrote at r (aclHead identity (now (key .entry)) 0) (now (out .entry)) (now (out .exit)) ⌝ }
+{
+    let a = put_word(out, at, identity);
+    let lengths = [key.len() as u8, 0, 0, 0, 0, 0, 0, 0];
+    let b = put_bytes(out, a, &lengths);
+    put_filled(out, b, key)
+}
+
+// ACL number `place`, counted from 0, with no scope yet.
+pub fn add_acl(device: &mut Record, place: usize, identity: u64, key: &[u8])
+    requires { ⌜ (place < 8) × (length (now key) ≤ 64) ⌝ }
+    ensures { λ _. ⌜ now (device .exit) ≡ putAcl (now (device .entry)) place identity (now (key .entry)) ⌝ }
+{
+    device[8] = place as u8 + 1;
+    put_acl(device, 16 + place * 368, identity, key);
+}
+
+fn put_scope(out: &mut [u8], at: usize, offset: u8, mask: u16, tls: bool, value: &[u8]) -> usize
+    requires { ⌜ (at + 72 ≤ length (now out)) × (length (now value) ≤ 64) ⌝ }
+    ensures { λ r. ⌜ Wrote at r (scopeBytes (record { offset = offset; value = now (value .entry); permissions = mask; tlsRequired = tls })) (now (out .entry)) (now (out .exit)) ⌝ }
+{
+    let head = [
+        offset,
+        value.len() as u8,
+        (mask / 256) as u8,
+        (mask % 256) as u8,
+        flag_of(tls),
+        0,
+        0,
+        0,
+    ];
+    let b = put_bytes(out, at, &head);
+    put_filled(out, b, value)
+}
+
+// Scope number `number` of ACL number `place`, both counted from 0.
+pub fn add_scope(
+    device: &mut Record,
+    place: usize,
+    number: usize,
+    offset: u8,
+    mask: u16,
+    tls: bool,
+    value: &[u8],
+)
+    requires { ⌜ (place < 8) × (number < 4) × (length (now value) ≤ 64) ⌝ }
+    ensures { λ _. ⌜ now (device .exit) ≡ putScope (now (device .entry)) place number (record { offset = offset; value = now (value .entry); permissions = mask; tlsRequired = tls }) ⌝ }
+{
+    let a = 16 + place * 368;
+    device[a + 9] = number as u8 + 1;
+    put_scope(device, a + 80 + number * 72, offset, mask, tls, value);
+}

@@ -1,0 +1,48 @@
+// An identity looked up in the device record, and the key at its place.
+ghost use mathlib.Core.Path.{_≡_};
+ghost use mathlib.Core.Bool.{true};
+ghost use Prim.Native.Nat.{_+_, _*_, _≤_};
+ghost use Rattle.access_record.specs.Table.{tableGood, findFrom, placeOf, aclOf};
+ghost use Rattle.access_record.specs.Record.{aclsAt, tableOf, Placed};
+use access_record::Found;
+use access_record::Record;
+use access_record::word_at;
+use base_integers::count;
+
+// The first of n ACLs from byte a on that has the identity, counted from i.
+pub fn find_from(device: &Record, a: usize, n: usize, i: usize, identity: u64) -> Found
+    requires { ⌜ (a + n * 368 ≤ 2960) × (i ≤ 8) ⌝ }
+    ensures { λ r. ⌜ r ≡ findFrom i identity (aclsAt (now (device .entry)) a n) ⌝ }
+{
+    let mut at = a;
+    let mut left = n;
+    let mut j = i;
+    while 0 < left {
+        if word_at(device, at) == identity {
+            return Found::At(j);
+        }
+        at += 368;
+        left -= 1;
+        j += 1;
+    }
+    Found::Nobody
+}
+
+pub fn find_identity(device: &Record, identity: u64) -> Found
+    requires { ⌜ tableGood (tableOf (now device)) ≡ true ⌝ }
+    ensures { λ r. ⌜ r ≡ placeOf (tableOf (now (device .entry))) identity ⌝ }
+{
+    find_from(device, 16, count(device[8]), 0, identity)
+}
+
+// The key at a place, as a part of the record.
+pub fn key_of(device: &Record, place: usize) -> &[u8]
+    requires { ⌜ Placed (now device) place ⌝ }
+    ensures { λ r. ⌜ now r ≡ aclOf (tableOf (now (device .entry))) place .key ⌝ }
+{
+    let a = 16 + place * 368;
+    let start = a + 16;
+    let end = start + count(device[a + 8]);
+    let bytes = &device[..];
+    &bytes[start..end]
+}

@@ -1,0 +1,145 @@
+-- The table of identities and its rules. Document 01, "The order of judgement", step 8, and refusal 3.
+use mathlib.Core.Bool.{Bool, true, false}
+use mathlib.Core.List.{List, [], _∷_}
+use Prim.Native.Nat.{ℕ, _+_, _/_, _%_, _^_}
+use lib.Dec.{eqb, leb}
+use lib.ListN.{length, getD}
+use Rattle.access_record.specs.declared.Found.{Found}
+use Rattle.access_record.specs.declared.Found.the-variants.{At, Nobody}
+
+-- ---- the table
+
+-- "Scope: 1 s offset, 2 b value, 3 e permission, 4 f TlsRequired". The permissions are a set: bit p of the mask for permission p.
+pub record Scope : Type 0 where
+  pub offset : ℕ
+  pub value : List ℕ
+  pub permissions : ℕ
+  pub tlsRequired : Bool
+
+-- "ACL: 1 s identity, 2 b key, 3 e hmacAlgorithm, 4 m scope". An identity is the 64-bit word of its two's complement.
+pub record Acl : Type 0 where
+  pub identity : ℕ
+  pub key : List ℕ
+  pub scopes : List Scope
+
+-- the ACLs, and the device's cluster version, a 64-bit word likewise
+pub record Table : Type 0 where
+  pub clusterVersion : ℕ
+  pub acls : List Acl
+
+-- ---- tests
+
+abbrev pub both : Bool → Bool → Bool
+both true b = b
+both false b = false
+
+abbrev pub either : Bool → Bool → Bool
+either true b = true
+either false b = b
+
+unfoldable pub all : {A : Type 0} → (A → Bool) → List A → Bool
+all f [] = true
+all f (x ∷ xs) = both (f x) (all f xs)
+
+unfoldable pub any : {A : Type 0} → (A → Bool) → List A → Bool
+any f [] = false
+any f (x ∷ xs) = either (f x) (any f xs)
+
+abbrev pub within : ℕ → ℕ → ℕ → Bool
+within a b n = both (leb a n) (leb n b)
+
+abbrev pub isEmpty : List ℕ → Bool
+isEmpty [] = true
+isEmpty (x ∷ xs) = false
+
+unfoldable pub sameBytes : List ℕ → List ℕ → Bool
+sameBytes [] [] = true
+sameBytes [] (y ∷ ys) = false
+sameBytes (x ∷ xs) [] = false
+sameBytes (x ∷ xs) (y ∷ ys) = both (eqb x y) (sameBytes xs ys)
+
+-- ---- sets of permissions
+
+-- "permissions among 0-5, 7, 8, 9"
+unfoldable pub named : ℕ → Bool
+named p = either (leb p 5) (within 7 9 p)
+
+-- permission p is in the set
+unfoldable pub bit : ℕ → ℕ → Bool
+bit m p = eqb (m / 2 ^ p % 2) 1
+
+abbrev pub pickMask : Bool → ℕ → ℕ → ℕ
+pickMask true a b = a
+pickMask false a b = b
+
+-- the set with p in it
+unfoldable pub withBit : ℕ → ℕ → ℕ
+withBit m p = pickMask (bit m p) m (m + 2 ^ p)
+
+-- "Permissions come one per field": the set of those that are listed
+unfoldable pub maskOf : List ℕ → ℕ
+maskOf [] = 0
+maskOf (p ∷ ps) = withBit (maskOf ps) p
+
+-- the scope with the listed permissions
+abbrev pub scopeOf : ℕ → List ℕ → List ℕ → Bool → Scope
+scopeOf offset value ps tlsRequired =
+    record { offset = offset; value = value; permissions = maskOf ps; tlsRequired = tlsRequired }
+
+-- ---- the ACL rules: "1 to 8 ACLs, identities present and distinct, key 1 to 64, 1 to 4 scopes, each with 1 to 9 permissions among
+-- 0-5, 7, 8, 9, offset 0 to 64, value at most 64"
+
+-- at least one permission, and only named ones
+unfoldable pub maskGood : ℕ → Bool
+maskGood m = both (leb 1 m) (both (leb m 1023) (eqb (m / 64 % 2) 0))
+
+unfoldable pub scopeGood : Scope → Bool
+scopeGood s = both (leb (s .offset) 64) (both (leb (length (s .value)) 64) (maskGood (s .permissions)))
+
+unfoldable pub aclGood : Acl → Bool
+aclGood a = both (within 1 64 (length (a .key))) (both (within 1 4 (length (a .scopes))) (all scopeGood (a .scopes)))
+
+abbrev pub pickFound : Bool → Found → Found → Found
+pickFound true a b = a
+pickFound false a b = b
+
+-- the first ACL that has the identity, counted from i
+unfoldable pub findFrom : ℕ → ℕ → List Acl → Found
+findFrom i w [] = Nobody
+findFrom i w (a ∷ rest) = pickFound (eqb (a .identity) w) (At i) (findFrom (i + 1) w rest)
+
+abbrev pub isNobody : Found → Bool
+isNobody Nobody = true
+isNobody (At i) = false
+
+-- each ACL is good, and none after it has its identity
+unfoldable pub aclsGood : List Acl → Bool
+aclsGood [] = true
+aclsGood (a ∷ rest) = both (aclGood a) (both (isNobody (findFrom 0 (a .identity) rest)) (aclsGood rest))
+
+unfoldable pub tableGood : Table → Bool
+tableGood t = both (within 1 8 (length (t .acls))) (aclsGood (t .acls))
+
+-- ---- look-up
+
+-- step 2: "Identity in the table"
+unfoldable pub placeOf : Table → ℕ → Found
+placeOf t w = findFrom 0 w (t .acls)
+
+abbrev pub noAcl : Acl
+noAcl = record { identity = 0; key = []; scopes = [] }
+
+-- the ACL at a place; where there is none, one that holds nothing
+unfoldable pub aclOf : Table → ℕ → Acl
+aclOf t i = getD (t .acls) i noAcl
+
+-- ---- Format: "The one ACL is identity 1, a key from the host, one scope with every permission, cluster version 0."
+
+abbrev pub everyScope : Scope
+everyScope = record { offset = 0; value = []; permissions = 959; tlsRequired = false }
+
+abbrev pub hostAcl : List ℕ → Acl
+hostAcl key = record { identity = 1; key = key; scopes = everyScope ∷ [] }
+
+abbrev pub hostTable : List ℕ → Table
+hostTable key = record { clusterVersion = 0; acls = hostAcl key ∷ [] }

@@ -1,0 +1,43 @@
+// The device record, its words and its cluster version.
+ghost use mathlib.Core.Path.{_≡_};
+ghost use Prim.Native.Nat.{_+_, _<_, _≤_};
+ghost use Rattle.access_record.specs.Record.{halfAt, wordAt, tableOf};
+
+// The device record: the table of identities and the cluster version.
+pub type Record = [u8; 2960];
+
+// The place of an identity in the table.
+pub enum Found {
+    At(usize),
+    Nobody,
+}
+
+fn wide(x: u8) -> u64
+    ensures { λ r. ⌜ (r ≡ x) × (r < 256) ⌝ }
+{
+    x as u64
+}
+
+// Numbers are big-endian.
+fn half_at(device: &Record, a: usize) -> u64
+    requires { ⌜ a + 4 ≤ 2960 ⌝ }
+    ensures { λ r. ⌜ (r ≡ halfAt (now (device .entry)) a) × (r < 4294967296) ⌝ }
+{
+    wide(device[a]) * 16777216
+        + wide(device[a + 1]) * 65536
+        + wide(device[a + 2]) * 256
+        + wide(device[a + 3])
+}
+
+pub fn word_at(device: &Record, a: usize) -> u64
+    requires { ⌜ a + 8 ≤ 2960 ⌝ }
+    ensures { λ r. ⌜ r ≡ wordAt (now (device .entry)) a ⌝ }
+{
+    half_at(device, a) * 4294967296 + half_at(device, a + 4)
+}
+
+pub fn cluster_version(device: &Record) -> u64
+    ensures { λ r. ⌜ r ≡ tableOf (now (device .entry)) .clusterVersion ⌝ }
+{
+    word_at(device, 0)
+}

@@ -1,0 +1,2 @@
+pub mod StoreSteps
+pub mod HostSteps

@@ -1,0 +1,20 @@
+use denote.Ref.{now}
+use Rattle.c_connection.proofs.Steps.{unseen, seen}
+use borrow.Author.Needs.{needs}
+use Rattle.c_connection.proofs.write.is_last.Statement.{statement}
+use Rattle.c_connection.proofs.write.is_last.Tie as tie
+
+element-copy-out-if1 : tie.Need-element-copy-out-if1
+element-copy-out-if1 c = search needs
+
+returns : tie.Need-returns
+returns c = let z = c .before .before .args in unseen (now (z .bytes)) (z .sequence) (c .if1 .taken)
+
+word-at-requires : tie.Need-word-at-requires
+word-at-requires c κs = search needs
+
+returns-2 : tie.Need-returns-2
+returns-2 c = let z = c .before .before .before .args in seen (now (z .bytes)) (z .sequence) (c .before .if1 .left) (c .word-at .ensures)
+
+pub is-last-spec : {M : Type 1} → statement M
+is-last-spec = tie.close (tie.spec element-copy-out-if1 returns word-at-requires returns-2)

@@ -1,0 +1,46 @@
+// A connection in 32 lent bytes: its layout, and the connection read.
+ghost use mathlib.Core.Path.{_≡_};
+ghost use Prim.Native.Nat.{_+_, _≤_, _<_};
+ghost use Rattle.access_record.specs.Record.{halfAt, wordAt};
+ghost use Rattle.protocol_connection.specs.Means.{connectionOf};
+ghost use Rattle.c_connection.specs.Layout.{connectionAt};
+use protocol_connection::Connection;
+
+pub type Bytes = [u8; 32];
+
+fn wide(x: u8) -> u64
+    ensures { λ r. ⌜ (r ≡ x) × (r < 256) ⌝ }
+{
+    x as u64
+}
+
+// Numbers are big-endian.
+fn half_at(bytes: &Bytes, a: usize) -> u64
+    requires { ⌜ a + 4 ≤ 32 ⌝ }
+    ensures { λ r. ⌜ (r ≡ halfAt (now (bytes .entry)) a) × (r < 4294967296) ⌝ }
+{
+    wide(bytes[a]) * 16777216
+        + wide(bytes[a + 1]) * 65536
+        + wide(bytes[a + 2]) * 256
+        + wide(bytes[a + 3])
+}
+
+pub fn word_at(bytes: &Bytes, a: usize) -> u64
+    requires { ⌜ a + 8 ≤ 32 ⌝ }
+    ensures { λ r. ⌜ r ≡ wordAt (now (bytes .entry)) a ⌝ }
+{
+    half_at(bytes, a) * 4294967296 + half_at(bytes, a + 4)
+}
+
+// The connection that the bytes hold.
+pub fn connection_at(bytes: &Bytes) -> Connection
+    ensures { λ r. ⌜ connectionOf r ≡ connectionAt (now (bytes .entry)) ⌝ }
+{
+    Connection {
+        number: word_at(bytes, 0),
+        protected: bytes[8] != 0,
+        closed: bytes[9] != 0,
+        seen: bytes[10] != 0,
+        last: word_at(bytes, 16),
+    }
+}

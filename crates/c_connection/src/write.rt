@@ -1,0 +1,70 @@
+// A connection in its lent bytes: made new, and written where it changes.
+ghost use mathlib.Core.Path.{_≡_};
+ghost use Rattle.fields_schema.specs.Tree.{guard};
+ghost use Rattle.protocol_connection.specs.Means.{connectionOf};
+ghost use Rattle.c_connection.specs.Layout.{connectionAt, connectedBytes, isLast, heardBytes, hears, closes, becomes};
+use crate::layout::Bytes;
+use crate::layout::word_at;
+use access_record_bytes::flag_of;
+use access_record_bytes::put_word;
+use protocol_connection::Connection;
+
+// A new connection: every byte is written.
+pub fn connect(bytes: &mut Bytes, number: u64, protected: bool)
+    ensures { λ _. ⌜ now (bytes .exit) ≡ connectedBytes number protected ⌝ }
+{
+    *bytes = [0; 32];
+    put_word(bytes, 0, number);
+    bytes[8] = flag_of(protected);
+}
+
+// Is it the last accepted sequence already?
+fn is_last(bytes: &Bytes, sequence: u64) -> bool
+    ensures { λ r. ⌜ r ≡ isLast (connectionAt (now (bytes .entry)) .last) sequence ⌝ }
+{
+    if bytes[10] == 0 {
+        return false;
+    }
+    word_at(bytes, 16) == sequence
+}
+
+// A sequence accepted.
+fn accept(bytes: &mut Bytes, sequence: u64)
+    ensures { λ _. ⌜ now (bytes .exit) ≡ heardBytes (now (bytes .entry)) sequence ⌝ }
+{
+    bytes[10] = 1;
+    put_word(bytes, 16, sequence);
+}
+
+// The last accepted sequence, where there is one and it is another than before.
+fn hear(bytes: &mut Bytes, seen: bool, last: u64)
+    ensures { λ _. ⌜ now (bytes .exit) ≡ hears (now (bytes .entry)) (guard seen last) ⌝ }
+{
+    if !seen {
+        return;
+    }
+    if is_last(bytes, last) {
+        return;
+    }
+    accept(bytes, last);
+}
+
+fn close(bytes: &mut Bytes, closed: bool)
+    ensures { λ _. ⌜ now (bytes .exit) ≡ closes (now (bytes .entry)) closed ⌝ }
+{
+    if !closed {
+        return;
+    }
+    if bytes[9] != 0 {
+        return;
+    }
+    bytes[9] = 1;
+}
+
+// The connection became c: what changed is written, and no other byte.
+pub fn update(bytes: &mut Bytes, c: Connection)
+    ensures { λ _. ⌜ now (bytes .exit) ≡ becomes (now (bytes .entry)) (connectionOf c) ⌝ }
+{
+    hear(bytes, c.seen, c.last);
+    close(bytes, c.closed);
+}

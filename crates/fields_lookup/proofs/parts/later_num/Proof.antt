@@ -1,0 +1,21 @@
+use mathlib.Core.Path.{_≡_, sym, ap, _∙_}
+use mathlib.Core.Bool.{true, false}
+use Rattle.fields_wire.specs.Reader.{choose}
+use Rattle.fields_lookup.specs.declared.parts.Num.{Num}
+use Rattle.fields_lookup.proofs.parts.later_num.Statement.{statement}
+use Rattle.fields_lookup.proofs.parts.later_num.Tie as tie
+
+taken : (b a : Num) → a .has ≡ true → _≡_ {A = Num} (record { has = true; value = a .value }) (choose (a .has) a b)
+taken b a e = ap (λ h. record { has = h; value = a .value }) (sym e) ∙ sym (ap (λ h. choose h a b) e)
+
+left : (b a : Num) → a .has ≡ false → b ≡ choose (a .has) a b
+left b a e = sym (ap (λ h. choose h a b) e)
+
+returns : tie.Need-returns
+returns c = let a = c .before .args in taken (a .before) (a .after) (c .if1 .taken)
+
+returns-2 : tie.Need-returns-2
+returns-2 c = let a = c .before .args in left (a .before) (a .after) (c .if1 .left)
+
+pub later-num-spec : {M : Type 1} → statement M
+later-num-spec = tie.close (tie.spec returns returns-2)

@@ -1,0 +1,15 @@
+use mathlib.Core.Path.{refl}
+use Rattle.fields_rule.specs.Judged.{bit}
+use borrow.Author.Needs.{needs}
+use Rattle.fields_rule.proofs.marked.Statement.{statement}
+use Rattle.fields_rule.proofs.marked.Tie as tie
+
+shr-result : tie.Need-shr-result
+shr-result c = search needs
+
+returns : tie.Need-returns
+unfolding bit
+returns c = refl
+
+pub marked-spec : {M : Type 1} → statement M
+marked-spec = tie.close (tie.spec shr-result returns)

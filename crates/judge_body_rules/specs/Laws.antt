@@ -1,0 +1,89 @@
+-- The code's tests are those of `Judge`.
+use mathlib.Core.Path.{_≡_, refl, sym, ap, ap₂, _∙_}
+use mathlib.Core.Bool.{Bool, true, false}
+use mathlib.Core.List.{List, [], _∷_}
+use mathlib.Core.Option.{Option, none, some}
+use Prim.Native.Nat.{ℕ, _≤_, _<_}
+use native.Mathlib.Omega.{arith}
+use lib.Dec.{leb}
+use lib.ListN.{length}
+use borrow.Author.Tests.{le-leb, lt-leb}
+use Rattle.fields_wire.specs.Reader.{choose}
+use Rattle.fields_schema.specs.Tree.{guard, mapO, isSome}
+use Rattle.access_record.specs.Table.{both, within}
+use Rattle.protocol.specs.declared.Operation.{Operation}
+use Rattle.protocol.specs.declared.Operation.the-variants.{Noop, Get, GetVersion, GetNext, GetPrevious, GetKeyRange, Put, Delete, FlushAllData, Setup, GetLog, Security}
+use Rattle.protocol.specs.Command.{KeyValue, Range, Body}
+use Rattle.protocol.specs.Judge.{isEmpty, broken, fault, present, keyValueGood, changeGood, rangeGood, typesGood, securityGood, algorithmsGood}
+use Rattle.judge_body_rules.specs.Given.{mostValue, partFault, Lengths, RangeLengths, Checked}
+
+-- the rule of a keyValue, of the lengths of its parts
+abbrev pub lengthsGood : ℕ → ℕ → ℕ → ℕ → Bool
+lengthsGood a b c d = both (within 1 64 a) (both (leb b 16) (both (leb c 16) (leb d 32)))
+
+pub by-lengths : {k : KeyValue} {a b c d : ℕ} → Lengths k a b c d → (r : Bool) → r ≡ lengthsGood a b c d → r ≡ keyValueGood k
+unfolding keyValueGood
+by-lengths l r e =
+    e ∙ ap₂ (λ (x y : Bool). both x y) (sym (ap (within 1 64) (l .key)))
+    (ap₂ both (sym (ap (λ (n : ℕ). leb n 16) (l .newVersion)))
+    (ap₂ both (sym (ap (λ (n : ℕ). leb n 16) (l .dbVersion))) (sym (ap (λ (n : ℕ). leb n 32) (l .tag)))))
+
+-- the length of a part that may be absent
+pub length-guard : (has : Bool) (b : List ℕ) → mapO length (guard has b) ≡ guard has (length b)
+length-guard true b = refl
+length-guard false b = refl
+
+-- the rule of a range, of the lengths of its keys
+abbrev pub rangeLengthsGood : Option ℕ → Option ℕ → ℕ → Bool
+rangeLengthsGood a b most = both (present (λ n. leb n 64) a) (both (present (λ n. leb n 64) b) (leb most 32))
+
+present-length : (k : Option (List ℕ)) → present (λ n. leb n 64) (mapO length k) ≡ present (λ b. leb (length b) 64) k
+present-length none = refl
+present-length (some b) = refl
+
+pub by-range-lengths : {g : Range} {a b : Option ℕ} {most : ℕ} → RangeLengths g a b most → (r : Bool) → r ≡ rangeLengthsGood a b most → r ≡ rangeGood g
+unfolding rangeGood
+by-range-lengths {g} l r e =
+    e ∙ ap₂ both (sym (ap (λ (a : Option ℕ). present (λ n. leb n 64) a) (l .start)) ∙ present-length (g .startKey))
+    (ap₂ both (sym (ap (λ (a : Option ℕ). present (λ n. leb n 64) a) (l .end)) ∙ present-length (g .endKey)) (sym (ap (λ (n : ℕ). leb n 32) (l .most))))
+
+pub over-long : (n m p : ℕ) → m < n → 16 ≡ choose (leb n m) p 16
+over-long n m p h = sym (ap (λ (t : Bool). choose t p 16) (lt-leb n m h))
+
+pub not-long : (n m p : ℕ) → n ≤ m → p ≡ choose (leb n m) p 16
+not-long n m p h = sym (ap (λ (t : Bool). choose t p 16) (le-leb n m h))
+
+-- the fault of a body, by the operation
+empty : (v : List ℕ) {n : ℕ} → length v ≡ n → isEmpty v ≡ leb n 0
+empty [] e = ap (λ (n : ℕ). leb n 0) e
+empty (x ∷ xs) {n} e = sym (lt-leb n 0 (omega arith))
+
+either-broken : (x y : Bool) → broken (both x y) ≡ choose x (broken y) 16
+either-broken true y = refl
+either-broken false y = refl
+
+either-fault : (x y : Bool) (n : ℕ) → choose (both x y) n 16 ≡ choose x (choose y n 16) 16
+either-fault true y n = refl
+either-fault false y n = refl
+
+-- a part beside an empty value part
+beside : (v : List ℕ) (y : Bool) {n m : ℕ} → length v ≡ n → broken y ≡ m → broken (both (isEmpty v) y) ≡ choose (leb n 0) m 16
+beside v y l e = either-broken (isEmpty v) y ∙ ap₂ (λ (t : Bool) (m : ℕ). choose t m 16) (empty v l) e
+
+pub by-checked : (o : Operation) (b : Body) (v : List ℕ) {n p c r s l x : ℕ} → Checked o b v n p c r s l x → choose (leb n (mostValue o)) (partFault o p c r s l x) 16 ≡ fault o b v
+by-checked Noop b v k = sym (ap broken (empty v (k .value)))
+by-checked FlushAllData b v k = sym (ap broken (empty v (k .value)))
+by-checked Get b v k = sym (beside v (present keyValueGood (b .keyValue)) (k .value) (k .pair))
+by-checked GetVersion b v k = sym (beside v (present keyValueGood (b .keyValue)) (k .value) (k .pair))
+by-checked GetNext b v k = sym (beside v (present keyValueGood (b .keyValue)) (k .value) (k .pair))
+by-checked GetPrevious b v k = sym (beside v (present keyValueGood (b .keyValue)) (k .value) (k .pair))
+by-checked Put b v k =
+    sym (either-broken (leb (length v) 384) (present changeGood (b .keyValue)) ∙ ap₂ (λ (m d : ℕ). choose (leb m 384) d 16) (k .value) (k .change))
+by-checked Delete b v k = sym (beside v (present changeGood (b .keyValue)) (k .value) (k .change))
+by-checked GetKeyRange b v k = sym (beside v (present rangeGood (b .range)) (k .value) (k .range))
+by-checked Setup b v k = sym (beside v (isSome (b .setup)) (k .value) (k .setup))
+by-checked GetLog b v k = sym (beside v (present typesGood (b .getLog)) (k .value) (k .log refl))
+by-checked Security b v k =
+    sym
+    (either-fault (isEmpty v) (present securityGood (b .security)) (choose (present algorithmsGood (b .security)) 0 15)
+    ∙ ap₂ (λ (t : Bool) (m : ℕ). choose t m 16) (empty v (k .value)) (k .security refl))

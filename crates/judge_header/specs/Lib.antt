@@ -1,0 +1,4 @@
+pub mod MessageTypeLaws
+pub mod Given
+pub mod HeaderLaws
+pub mod Steps

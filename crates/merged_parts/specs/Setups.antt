@@ -1,9 +1,0 @@
--- What was read of the setups that a tree joins.
-use mathlib.Core.Path.{_≡_}
-use Rattle.tree.specs.Tree.{Tree}
-use Rattle.lookups.specs.Views.{numView}
-use Rattle.lookups.specs.declared.parts.Num.{Num}
-use Rattle.protocol.specs.Command.{setupOf}
-
-abbrev pub SetupIs : Tree → Num → Type 0
-SetupIs t n = numView n ≡ setupOf t

@@ -1,0 +1,26 @@
+use mathlib.Core.Path.{_≡_, sym}
+use denote.Ref.{now}
+use Rattle.protocol.specs.State.{State, withDevice}
+use Rattle.reply_send.specs.SentLaws.{sent-as}
+use borrow.Author.Needs.{needs}
+use Rattle.perform.proofs.setup.Statement.{statement}
+use Rattle.perform.proofs.setup.Tie as tie
+
+setup-requires : tie.Need-setup-requires
+setup-requires c κs = search needs
+
+status-requires : tie.Need-status-requires
+status-requires c κs = search needs
+
+same-length : tie.Need-same-length
+same-length c = search needs
+
+returns : tie.Need-returns
+returns c =
+    let e = c .before .before .before .before .setup in
+    let z = c .before .before .before .before .before .before .before .before in
+    λ (t : State) (q : t .device ≡ now (z .args .device)).
+    sent-as (z .args .a) (now (z .args .by)) (sym (e .ensures .whole t q)) (c .before .before .status .ensures (withDevice t _))
+
+pub setup-spec : {M : Type 1} → statement M
+setup-spec = tie.close (tie.spec setup-requires status-requires same-length returns)

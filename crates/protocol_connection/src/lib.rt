@@ -1,0 +1,52 @@
+// A connection, as the box keeps it from one message to the next.
+ghost use mathlib.Core.Path.{_≡_};
+ghost use Rattle.protocol.specs.State.{connected, heard, shut};
+ghost use Rattle.protocol_connection.specs.Means.{connectionOf};
+
+// Its number, a 64-bit word, whether it is protected or closed, and the last accepted sequence, where one was seen.
+pub struct Connection {
+    pub number: u64,
+    pub protected: bool,
+    pub closed: bool,
+    pub seen: bool,
+    pub last: u64,
+}
+
+// A new connection, on which no sequence was seen yet.
+pub fn connect(number: u64, protected: bool) -> Connection
+    ensures { λ r. ⌜ connectionOf r ≡ connected number protected ⌝ }
+{
+    Connection {
+        number,
+        protected,
+        closed: false,
+        seen: false,
+        last: 0,
+    }
+}
+
+// The connection with a sequence accepted.
+pub fn accept(c: Connection, sequence: u64) -> Connection
+    ensures { λ r. ⌜ connectionOf r ≡ heard (connectionOf c) sequence ⌝ }
+{
+    Connection {
+        number: c.number,
+        protected: c.protected,
+        closed: c.closed,
+        seen: true,
+        last: sequence,
+    }
+}
+
+// The connection closed.
+pub fn close(c: Connection) -> Connection
+    ensures { λ r. ⌜ connectionOf r ≡ shut (connectionOf c) ⌝ }
+{
+    Connection {
+        number: c.number,
+        protected: c.protected,
+        closed: true,
+        seen: c.seen,
+        last: c.last,
+    }
+}

@@ -1,0 +1,33 @@
+// The closing reply, document 01, "Replies". It is written from its end to its front into a local array, framed and copied once to the start of the
+// lent buffer; the rest of the buffer stays as it is.
+ghost use Prim.Native.Nat.{_+_, _≤_};
+ghost use lib.ListN.{length};
+ghost use Rattle.fields_schema.specs.Tree.{done, int};
+ghost use Rattle.fields_encoding.specs.Encode.{lenField, encode};
+ghost use Rattle.fields_write_bytes.specs.Pushed.{Pushed, Starts};
+ghost use Rattle.protocol.specs.Reply.{closingReply};
+use reply_command::push_status;
+use reply_envelope::push_prefix;
+
+// A header with the connection's number only.
+fn push_connection(out: &mut [u8], at: usize, connection: u64) -> usize
+    requires { ⌜ (30 ≤ at) × (at ≤ length (now out)) ⌝ }
+    ensures { λ r. ⌜ Pushed r at (lenField 1 (encode (int 3 connection done))) (now (out .entry)) (now (out .exit)) × (at ≤ r + 30) ⌝ }
+{
+    let a = fields_write_field::push_int(out, at, 3, connection);
+    fields_write_field::push_head(out, a, 1, at - a)
+}
+
+// A whole closing reply.
+pub fn put_closing(out: &mut [u8], connection: u64, code: u64) -> usize
+    requires { ⌜ 4096 ≤ length (now out) ⌝ }
+    ensures { λ r. ⌜ Starts r (closingReply connection code) (now (out .entry)) (now (out .exit)) ⌝ }
+{
+    let mut s = [0u8; 128];
+    let a = push_status(&mut s, 128, code);
+    let b = push_connection(&mut s, a, connection);
+    let c = fields_write_field::push_head(&mut s, b, 7, 128 - b);
+    let d = fields_write_field::push_int(&mut s, c, 4, 3);
+    let e = push_prefix(&mut s, d, 128 - d, 0);
+    fields_write_bytes::copy(out, &s[e..128])
+}

@@ -1,0 +1,49 @@
+// The parts of a reply's command, document 01, "Replies", each written in front of what stands behind it.
+ghost use Prim.Native.Nat.{_+_, _≤_};
+ghost use lib.ListN.{length};
+ghost use Rattle.fields_encoding.specs.Encode.{lenField, encode};
+ghost use Rattle.fields_write_bytes.specs.Pushed.{Pushed, maybe};
+ghost use Rattle.protocol.specs.Judge.{keyValue};
+ghost use Rattle.protocol.specs.Reply.{headerTree, statusTree};
+ghost use Rattle.reply_command.specs.Parts.{bodyBytes};
+use fields_write_bytes::Maybe;
+
+// The status, the last part of a command.
+pub fn push_status(out: &mut [u8], at: usize, code: u64) -> usize
+    requires { ⌜ (30 ≤ at) × (at ≤ length (now out)) ⌝ }
+    ensures { λ r. ⌜ Pushed r at (encode (statusTree code)) (now (out .entry)) (now (out .exit)) × (at ≤ r + 30) ⌝ }
+{
+    let a = fields_write_field::push_int(out, at, 1, code);
+    fields_write_field::push_head(out, a, 3, at - a)
+}
+
+// The header, the first part of a command.
+pub fn push_header(out: &mut [u8], at: usize, connection: u64, ack: Maybe, kind: u64) -> usize
+    requires { ⌜ (60 ≤ at) × (at ≤ length (now out)) ⌝ }
+    ensures { λ r. ⌜ Pushed r at (lenField 1 (encode (headerTree connection (maybe ack) kind))) (now (out .entry)) (now (out .exit)) × (at ≤ r + 60) ⌝ }
+{
+    let a = fields_write_field::push_int(out, at, 7, kind);
+    let b = fields_write_optional::push_maybe(out, a, 6, ack);
+    let c = fields_write_field::push_int(out, b, 3, connection);
+    fields_write_field::push_head(out, c, 1, at - c)
+}
+
+// A body with a keyValue; empty parts are left out, the keyValue is not.
+pub fn push_key_value(
+    out: &mut [u8],
+    at: usize,
+    key: &[u8],
+    version: &[u8],
+    tag: &[u8],
+    algorithm: u64,
+) -> usize
+    requires { ⌜ (length (now key) ≤ 64) × (length (now version) ≤ 16) × (length (now tag) ≤ 32) × (202 ≤ at) × (at ≤ length (now out)) ⌝ }
+    ensures { λ r. ⌜ Pushed r at (bodyBytes (keyValue (now (key .entry)) (now (version .entry)) (now (tag .entry)) algorithm)) (now (out .entry)) (now (out .exit)) × (at ≤ r + 202) ⌝ }
+{
+    let a = fields_write_optional::push_nonzero(out, at, 6, algorithm);
+    let b = fields_write_optional::push_nonempty(out, a, 5, tag);
+    let c = fields_write_optional::push_nonempty(out, b, 4, version);
+    let d = fields_write_optional::push_nonempty(out, c, 3, key);
+    let e = fields_write_field::push_head(out, d, 1, at - d);
+    fields_write_field::push_head(out, e, 2, at - e)
+}

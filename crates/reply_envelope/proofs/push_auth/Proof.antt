@@ -1,0 +1,42 @@
+use native.Mathlib.Omega.{arith}
+use Rattle.reply_envelope.specs.Frames.{auth-law}
+use borrow.Author.Needs.{needs}
+use Rattle.reply_envelope.proofs.push_auth.Statement.{statement}
+use Rattle.reply_envelope.proofs.push_auth.Tie as tie
+
+push-raw-requires : tie.Need-push-raw-requires
+push-raw-requires c κs = search needs
+
+push-int-requires : tie.Need-push-int-requires
+push-int-requires c κs = search needs
+
+sub-push-head : tie.Need-sub-push-head
+sub-push-head c = search needs
+
+push-head-requires : tie.Need-push-head-requires
+push-head-requires c κs = search needs
+
+push-int-requires-2 : tie.Need-push-int-requires-2
+push-int-requires-2 c κs = search needs
+
+same-length : tie.Need-same-length
+same-length c = search needs
+
+returns : tie.Need-returns
+returns c = (
+  auth-law _ _ (c .before .before .push-int2 .ensures .0) (c .before .before .before .before .before .before .push-head .ensures .0) (c .before .before .before .before .before .before .before .before .before .before .push-int .ensures .0)
+      (c .before .before .before .before .before .before .before .before .before .before .before .before .before .before .push-raw .ensures .0),
+  omega arith,
+)
+
+pub push-auth-spec : {M : Type 1} → statement M
+push-auth-spec =
+    tie.close
+    (tie.spec
+    push-raw-requires
+    push-int-requires
+    sub-push-head
+    push-head-requires
+    push-int-requires-2
+    same-length
+    returns)

@@ -1,0 +1,81 @@
+use native.Mathlib.Omega.{arith}
+use mathlib.Core.Path.{_≡_, refl}
+use denote.Ref.{now}
+use Rattle.fields_write_bytes.specs.Pushed.{maybe}
+use Rattle.protocol.specs.Judge.{log, logWith}
+use Rattle.protocol.specs.Reply.{commandTree}
+use Rattle.reply_command.specs.Parts.{command-law}
+use Rattle.reply_envelope.specs.Frames.{no-value, signed-whole, copied}
+use borrow.Author.Needs.{needs}
+use Rattle.reply_log.proofs.put_log.Statement.{statement}
+use Rattle.reply_log.proofs.put_log.Tie as tie
+
+slice-aggregate-push-status : tie.Need-slice-aggregate-push-status
+slice-aggregate-push-status c = search needs
+
+push-status-requires : tie.Need-push-status-requires
+push-status-requires c κs = search needs
+
+slice-aggregate-push-log : tie.Need-slice-aggregate-push-log
+slice-aggregate-push-log c = search needs
+
+push-log-requires : tie.Need-push-log-requires
+push-log-requires c κs = search needs
+
+slice-aggregate-push-header : tie.Need-slice-aggregate-push-header
+slice-aggregate-push-header c = search needs
+
+push-header-requires : tie.Need-push-header-requires
+push-header-requires c κs = search needs
+
+slice-aggregate-finish : tie.Need-slice-aggregate-finish
+slice-aggregate-finish c = search needs
+
+finish-requires : tie.Need-finish-requires
+finish-requires c κs = search needs
+
+sub-copy : tie.Need-sub-copy
+sub-copy c = search needs
+
+part-copy-start : tie.Need-part-copy-start
+part-copy-start c = search needs
+
+part-copy-end : tie.Need-part-copy-end
+part-copy-end c = search needs
+
+copy-requires : tie.Need-copy-requires
+copy-requires c κs = search needs
+
+same-length : tie.Need-same-length
+same-length c = search needs
+
+returns : tie.Need-returns
+returns c =
+    let a = c .before .before .before .before .before .before .before .before .before .before .before .before .before .before .before .before .before .before .before .before .before .before .args in
+    let end = c .before .before .before .before .before .before .before .finish in
+    let body = log (logWith (now (a .store)) (now (a .readings)) (a .utilized) (a .heated) (a .filled) (a .limited)) in
+    let command = command-law (a .connection) (maybe (a .ack)) (a .kind) body 1 (c .before .before .before .before .before .before .before .before .before .before .push-header .ensures .0)
+    (c .before .before .before .before .before .before .before .before .before .before .before .before .before .push-log .ensures .0)
+    (c .before .before .before .before .before .before .before .before .before .before .before .before .before .before .before .before .push-status .ensures .0) in
+    copied (end .last .0) (end .result) 1024 (omega arith)
+    (signed-whole (commandTree (a .connection) (maybe (a .ack)) (a .kind) body 1) _ (end .ensures .0) command (no-value 1024 _ refl))
+    (c .before .before .copy .ensures)
+
+pub put-log-spec : {M : Type 1} → statement M
+put-log-spec =
+    tie.close
+    (tie.spec
+    slice-aggregate-push-status
+    push-status-requires
+    slice-aggregate-push-log
+    push-log-requires
+    slice-aggregate-push-header
+    push-header-requires
+    slice-aggregate-finish
+    finish-requires
+    sub-copy
+    part-copy-start
+    part-copy-end
+    copy-requires
+    same-length
+    returns)

@@ -1,0 +1,117 @@
+// A log in the body of a reply, document 02, CR 1: each part that is asked for, written in front of what stands behind it.
+ghost use mathlib.Core.Path.{_≡_};
+ghost use mathlib.Core.Bool.{true};
+ghost use Prim.Native.Nat.{_+_, _^_, _<_, _≤_};
+ghost use lib.ListN.{length};
+ghost use Rattle.fields_schema.specs.Tree.{mapO, guard, done};
+ghost use Rattle.fields_encoding.specs.Encode.{lenField, encode, subO, eachSub};
+ghost use Rattle.fields_write_bytes.specs.Pushed.{Pushed};
+ghost use Rattle.store_layout.specs.Store.{Good};
+ghost use Rattle.log_readings.specs.Lent.{readingsGood};
+ghost use Rattle.log_readings.specs.LentLaws.{Places};
+ghost use Rattle.protocol.specs.Judge.{log, capacityOf, logWith};
+ghost use Rattle.protocol.specs.Reply.{capacityTree, limitsTree};
+ghost use Rattle.reply_command.specs.Parts.{bodyBytes};
+ghost use Rattle.reply_log_body.specs.LogLaws.{sizes, samplesIf};
+
+// The most bytes of a key, a value, a version and a tag.
+fn push_sizes(out: &mut [u8], at: usize) -> usize
+    requires { ⌜ (60 ≤ at) × (at ≤ length (now out)) ⌝ }
+    ensures { λ r. ⌜ Pushed r at (encode sizes) (now (out .entry)) (now (out .exit)) × (at ≤ r + 60) ⌝ }
+{
+    let a = fields_write_field::push_int(out, at, 4, 32);
+    let b = fields_write_field::push_int(out, a, 3, 16);
+    let c = fields_write_field::push_int(out, b, 2, 384);
+    fields_write_field::push_int(out, c, 1, 64)
+}
+
+// Field 8: those, and the most of a message, a range's keys and the identities.
+fn push_limits(out: &mut [u8], at: usize) -> usize
+    requires { ⌜ (120 ≤ at) × (at ≤ length (now out)) ⌝ }
+    ensures { λ r. ⌜ Pushed r at (lenField 8 (encode limitsTree)) (now (out .entry)) (now (out .exit)) × (at ≤ r + 120) ⌝ }
+{
+    let a = fields_write_field::push_int(out, at, 10, 8);
+    let b = fields_write_field::push_int(out, a, 9, 32);
+    let c = fields_write_field::push_int(out, b, 8, 8192);
+    let d = push_sizes(out, c);
+    fields_write_field::push_head(out, d, 8, at - d)
+}
+
+// Field 4: 512 bytes a block, and the used part of the blocks.
+fn push_capacity(out: &mut [u8], at: usize, store: &[u8]) -> usize
+    requires { ⌜ Good (now store) × (39 ≤ at) × (at ≤ length (now out)) ⌝ }
+    ensures { λ r. ⌜ Pushed r at (lenField 4 (encode (capacityTree (capacityOf (now (store .entry)))))) (now (out .entry)) (now (out .exit)) × (at ≤ r + 39) ⌝ }
+{
+    let all = store.len() / 512;
+    let used = store_layout::count(store);
+    let full = log_binary32::portion_full(used, all);
+    let a = fields_write_bytes_field::push_float(out, at, 5, full);
+    let b = fields_write_field::push_int(out, a, 4, 512 * (all as u64));
+    fields_write_field::push_head(out, b, 4, at - b)
+}
+
+// The limits, if they are asked for.
+fn push_asked_limits(out: &mut [u8], at: usize, asked: bool) -> usize
+    requires { ⌜ (120 ≤ at) × (at ≤ length (now out)) ⌝ }
+    ensures { λ r. ⌜ Pushed r at (encode (subO 8 (guard asked limitsTree) done)) (now (out .entry)) (now (out .exit)) × (at ≤ r + 120) ⌝ }
+{
+    if asked {
+        return push_limits(out, at);
+    }
+    at
+}
+
+// The capacity, if it is asked for.
+fn push_asked_capacity(out: &mut [u8], at: usize, store: &[u8], asked: bool) -> usize
+    requires { ⌜ Good (now store) × (39 ≤ at) × (at ≤ length (now out)) ⌝ }
+    ensures { λ r. ⌜ Pushed r at (encode (subO 4 (mapO capacityTree (guard asked (capacityOf (now (store .entry))))) done)) (now (out .entry)) (now (out .exit)) × (at ≤ r + 39) ⌝ }
+{
+    if asked {
+        return push_capacity(out, at, store);
+    }
+    at
+}
+
+// The readings of `count` places from `first` on, each as a field `n`, if they are asked for.
+fn push_asked_samples(
+    out: &mut [u8],
+    at: usize,
+    n: u64,
+    readings: &[u8],
+    first: usize,
+    count: usize,
+    temperature: bool,
+    asked: bool,
+) -> usize
+    requires { ⌜ Places (now readings) first count × (first ≤ 6) × (n < 2 ^ 29) × (220 ≤ at) × (at ≤ length (now out)) ⌝ }
+    ensures { λ r. ⌜ Pushed r at (encode (eachSub n (samplesIf asked temperature (now (readings .entry)) first count) done)) (now (out .entry)) (now (out .exit)) × (at ≤ r + 220) ⌝ }
+{
+    if asked {
+        return reply_log_sample::push_samples(out, at, n, readings, first, count, temperature);
+    }
+    at
+}
+
+// A body with a log of the parts that are asked for, which is there even when empty.
+pub fn push_log(
+    out: &mut [u8],
+    at: usize,
+    store: &[u8],
+    readings: &[u8],
+    utilized: bool,
+    heated: bool,
+    filled: bool,
+    limited: bool,
+) -> usize
+    requires { ⌜ Good (now store) × (readingsGood (now readings) ≡ true) × (629 ≤ at) × (at ≤ length (now out)) ⌝ }
+    ensures { λ r. ⌜ Pushed r at (bodyBytes (log (logWith (now (store .entry)) (now (readings .entry)) utilized heated filled limited))) (now (out .entry)) (now (out .exit)) × (at ≤ r + 629) ⌝ }
+{
+    let a = push_asked_limits(out, at, limited);
+    let b = push_asked_capacity(out, a, store, filled);
+    let t = log_readings::temperatures(readings);
+    let c = push_asked_samples(out, b, 3, readings, 0, t, true, heated);
+    let u = log_readings::utilizations(readings);
+    let d = push_asked_samples(out, c, 2, readings, 4, u, false, utilized);
+    let e = fields_write_field::push_head(out, d, 6, at - d);
+    fields_write_field::push_head(out, e, 2, at - e)
+}

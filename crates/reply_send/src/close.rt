@@ -1,0 +1,26 @@
+// The reply that closes a connection.
+use protocol_connection::Connection;
+ghost use mathlib.Core.List.{List};
+ghost use Prim.Native.Nat.{ℕ, _≤_};
+ghost use lib.ListN.{length};
+ghost use Rattle.protocol.specs.State.{lent};
+ghost use Rattle.protocol.specs.Box.{close};
+ghost use Rattle.protocol_connection.specs.Means.{connectionOf};
+ghost use Rattle.reply_send.specs.Sent.{Sent};
+
+// A reply of so many bytes, and the connection after it.
+pub struct Replied {
+    pub written: usize,
+    pub connection: Connection,
+}
+
+// The closing reply with a code.
+pub fn close(connection: Connection, out: &mut [u8], code: u64) -> Replied
+    requires { ⌜ 4096 ≤ length (now out) ⌝ }
+    ensures { λ r. ⌜ ((store device readings : List ℕ) → Sent (close (lent store device readings (connectionOf connection)) code) (r .written) (now (out .entry)) (now (out .exit)) (lent store device readings (connectionOf (r .connection)))) ⌝ }
+{
+    Replied {
+        written: reply_closing::put_closing(out, connection.number, code),
+        connection: protocol_connection::close(connection),
+    }
+}

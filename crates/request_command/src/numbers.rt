@@ -1,0 +1,25 @@
+// A number of a message where it may be absent.
+ghost use mathlib.Core.Path.{_≡_};
+ghost use Rattle.fields_lookup.specs.Views.{numView};
+ghost use Rattle.protocol.specs.Command.{orElse, flag};
+use fields_lookup::parts::Num;
+
+pub fn number_or(n: Num, absent: u64) -> u64
+    ensures { λ r. ⌜ r ≡ orElse absent (numView n) ⌝ }
+{
+    let has = n.has;
+    if has {
+        return n.value;
+    }
+    absent
+}
+
+pub fn flag_of(n: Num) -> bool
+    ensures { λ r. ⌜ r ≡ flag (numView n) ⌝ }
+{
+    let has = n.has;
+    if has {
+        return n.value != 0;
+    }
+    false
+}

@@ -1,0 +1,177 @@
+// Messages of one number in a command or a body, merged.
+ghost use Rattle.fields_schema.specs.Tree.{done, subAt, treeIn};
+ghost use Rattle.fields_lookup.specs.Views.{Inside, Only, Reads, bytesAt, treeOf};
+ghost use Rattle.request_parts.specs.Views.{HeaderIs, KeyValueIs, RangeIs};
+ghost use Rattle.request_merged.specs.Setups.{SetupIs};
+use fields_lookup::parts::Num;
+use fields_lookup::parts::Part;
+use fields_lookup::parts::later_num;
+use fields_lookup::parts::num_of;
+use fields_lookup::parts::open_at;
+use fields_repeated::next_part;
+use fields_schema::Kind;
+use request_parts::Header;
+use request_parts::KeyValue;
+use request_parts::Range;
+use request_parts::merge_headers;
+use request_parts::merge_key_values;
+use request_parts::merge_ranges;
+use request_parts::no_header;
+use request_parts::no_key_value;
+use request_parts::no_range;
+use request_parts::read_header;
+use request_parts::read_key_value;
+use request_parts::read_range;
+
+// Every header of the command in the part p.
+fn read_headers(s: &[u8], p: Part) -> Header
+    requires { ⌜ Inside (now s) p × Reads (Kind.Command) (bytesAt (now s) p) ⌝ }
+    ensures { λ r. ⌜ HeaderIs (treeIn (subAt 1 (treeOf (Kind.Command) (bytesAt (now (s .entry)) p)))) r ⌝ }
+{
+    let mut left = p;
+    let mut h = no_header();
+    while 0 < left.len {
+        let x = next_part(s, left, 1);
+        let has = x.part.has;
+        if !has {
+            return h;
+        }
+        h = merge_headers(h, read_header(s, x.part));
+        left = x.rest;
+    }
+    h
+}
+
+// The same, where a is the last one, and the only one unless a singular field of the command was sent twice.
+pub fn header_in(s: &[u8], p: Part, a: Part, twice: bool) -> Header
+    requires { ⌜ Inside (now s) p × Reads (Kind.Command) (bytesAt (now s) p) × Only (Kind.Header) (now s) a twice (subAt 1 (treeOf (Kind.Command) (bytesAt (now s) p))) ⌝ }
+    ensures { λ r. ⌜ HeaderIs (treeIn (subAt 1 (treeOf (Kind.Command) (bytesAt (now (s .entry)) p)))) r ⌝ }
+{
+    let has = a.has;
+    if !has {
+        return no_header();
+    }
+    if twice {
+        return read_headers(s, p);
+    }
+    read_header(s, a)
+}
+
+// Every keyValue of the body in the part p.
+fn read_key_values(s: &[u8], p: Part) -> KeyValue
+    requires { ⌜ Inside (now s) p × Reads (Kind.Body) (bytesAt (now s) p) ⌝ }
+    ensures { λ r. ⌜ KeyValueIs (now (s .entry)) (treeIn (subAt 1 (treeOf (Kind.Body) (bytesAt (now (s .entry)) p)))) r ⌝ }
+{
+    let mut left = p;
+    let mut e = no_key_value();
+    while 0 < left.len {
+        let x = next_part(s, left, 1);
+        let has = x.part.has;
+        if !has {
+            return e;
+        }
+        e = merge_key_values(e, read_key_value(s, x.part));
+        left = x.rest;
+    }
+    e
+}
+
+// The same, where a is the last one, and the only one unless a singular field of the body was sent twice.
+pub fn entry_in(s: &[u8], p: Part, a: Part, twice: bool) -> KeyValue
+    requires { ⌜ Inside (now s) p × Reads (Kind.Body) (bytesAt (now s) p) × Only (Kind.KeyValue) (now s) a twice (subAt 1 (treeOf (Kind.Body) (bytesAt (now s) p))) ⌝ }
+    ensures { λ r. ⌜ KeyValueIs (now (s .entry)) (treeIn (subAt 1 (treeOf (Kind.Body) (bytesAt (now (s .entry)) p)))) r ⌝ }
+{
+    let has = a.has;
+    if !has {
+        return no_key_value();
+    }
+    if twice {
+        return read_key_values(s, p);
+    }
+    read_key_value(s, a)
+}
+
+// Every range of the body in the part p.
+fn read_ranges(s: &[u8], p: Part) -> Range
+    requires { ⌜ Inside (now s) p × Reads (Kind.Body) (bytesAt (now s) p) ⌝ }
+    ensures { λ r. ⌜ RangeIs (now (s .entry)) (treeIn (subAt 2 (treeOf (Kind.Body) (bytesAt (now (s .entry)) p)))) r ⌝ }
+{
+    let mut left = p;
+    let mut g = no_range();
+    while 0 < left.len {
+        let x = next_part(s, left, 2);
+        let has = x.part.has;
+        if !has {
+            return g;
+        }
+        g = merge_ranges(g, read_range(s, x.part));
+        left = x.rest;
+    }
+    g
+}
+
+// The same, where a is the last one, and the only one unless a singular field of the body was sent twice.
+pub fn range_in(s: &[u8], p: Part, a: Part, twice: bool) -> Range
+    requires { ⌜ Inside (now s) p × Reads (Kind.Body) (bytesAt (now s) p) × Only (Kind.Range) (now s) a twice (subAt 2 (treeOf (Kind.Body) (bytesAt (now s) p))) ⌝ }
+    ensures { λ r. ⌜ RangeIs (now (s .entry)) (treeIn (subAt 2 (treeOf (Kind.Body) (bytesAt (now (s .entry)) p)))) r ⌝ }
+{
+    let has = a.has;
+    if !has {
+        return no_range();
+    }
+    if twice {
+        return read_ranges(s, p);
+    }
+    read_range(s, a)
+}
+
+fn no_setup() -> Num
+    ensures { λ r. ⌜ SetupIs done r ⌝ }
+{
+    Num {
+        has: false,
+        value: 0,
+    }
+}
+
+fn read_setup(s: &[u8], p: Part) -> Num
+    requires { ⌜ Inside (now s) p × Reads (Kind.Setup) (bytesAt (now s) p) ⌝ }
+    ensures { λ r. ⌜ SetupIs (treeOf (Kind.Setup) (bytesAt (now (s .entry)) p)) r ⌝ }
+{
+    let t = open_at(s, p, Kind::Setup);
+    num_of(t, 1)
+}
+
+// Every setup of the body in the part p.
+fn read_setups(s: &[u8], p: Part) -> Num
+    requires { ⌜ Inside (now s) p × Reads (Kind.Body) (bytesAt (now s) p) ⌝ }
+    ensures { λ r. ⌜ SetupIs (treeIn (subAt 3 (treeOf (Kind.Body) (bytesAt (now (s .entry)) p)))) r ⌝ }
+{
+    let mut left = p;
+    let mut n = no_setup();
+    while 0 < left.len {
+        let x = next_part(s, left, 3);
+        let has = x.part.has;
+        if !has {
+            return n;
+        }
+        n = later_num(n, read_setup(s, x.part));
+        left = x.rest;
+    }
+    n
+}
+
+// The same, where a is the last one, and the only one unless a singular field of the body was sent twice.
+pub fn setup_in(s: &[u8], p: Part, a: Part, twice: bool) -> Num
+    requires { ⌜ Inside (now s) p × Reads (Kind.Body) (bytesAt (now s) p) × Only (Kind.Setup) (now s) a twice (subAt 3 (treeOf (Kind.Body) (bytesAt (now s) p))) ⌝ }
+    ensures { λ r. ⌜ SetupIs (treeIn (subAt 3 (treeOf (Kind.Body) (bytesAt (now (s .entry)) p)))) r ⌝ }
+{
+    let has = a.has;
+    if !has {
+        return no_setup();
+    }
+    if twice {
+        return read_setups(s, p);
+    }
+    read_setup(s, a)
+}

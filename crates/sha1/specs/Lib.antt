@@ -1,5 +1,0 @@
--- The definitions that the contracts of `sha1` cite, and what follows of them.
-pub mod Sha1
-pub mod Sha1Laws
-pub mod Steps
-pub mod StepsLaws

@@ -1,5 +1,0 @@
--- The definitions that the contracts of `sha1_compression` cite, and what follows of them.
-pub mod Compression
-pub mod CompressionLaws
-pub mod Steps
-pub mod StepsLaws

@@ -1,5 +1,0 @@
--- The definitions that the contracts of `signature` cite, and what follows of them.
-pub mod Hmac
-pub mod HmacLaws
-pub mod Steps
-pub mod StepsLaws

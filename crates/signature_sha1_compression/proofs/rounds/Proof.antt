@@ -1,0 +1,44 @@
+use mathlib.Core.Path.{sym}
+use denote.Ref.{now}
+use Rattle.signature_sha1_compression.specs.CompressionLaws.{rounds-none}
+use Rattle.signature_sha1_compression.specs.StepsLaws.{parity-20, parity-60}
+use borrow.Author.Needs.{needs}
+use Rattle.signature_sha1_compression.proofs.rounds.Statement.{statement}
+use Rattle.signature_sha1_compression.proofs.rounds.Tie as tie
+
+schedule-requires : tie.Need-schedule-requires
+schedule-requires c κs = search needs
+
+choice-rounds-requires : tie.Need-choice-rounds-requires
+choice-rounds-requires c κs = search needs
+
+parity-rounds-requires : tie.Need-parity-rounds-requires
+parity-rounds-requires c κs = parity-20
+
+majority-rounds-requires : tie.Need-majority-rounds-requires
+majority-rounds-requires c κs = search needs
+
+parity-rounds-requires-2 : tie.Need-parity-rounds-requires-2
+parity-rounds-requires-2 c κs = parity-60
+
+returns : tie.Need-returns
+returns c =
+    let a = c .before .before .before .before .before .before .before .before .before .before .args in
+    let m = now (a .m) in
+    let h = a .s in
+    let words = c .before .before .before .before .before .before .before .before .schedule .ensures in
+    c .parity-rounds2 .ensures m h words
+    (c .before .before .majority-rounds .ensures m h words
+    (c .before .before .before .before .parity-rounds .ensures m h words
+    (c .before .before .before .before .before .before .choice-rounds .ensures m h words (sym (rounds-none m h)))))
+
+pub rounds-spec : {M : Type 1} → statement M
+rounds-spec =
+    tie.close
+    (tie.spec
+    schedule-requires
+    choice-rounds-requires
+    parity-rounds-requires
+    majority-rounds-requires
+    parity-rounds-requires-2
+    returns)

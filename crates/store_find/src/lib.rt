@@ -1,0 +1,85 @@
+// The entries of a lent store: where a key stands, and what stands at a place.
+ghost use mathlib.Core.Path.{_≡_};
+ghost use Rattle.store_layout.specs.Entries.{Sought, EntryAt, noParts};
+use store_block::Order;
+use store_layout::Found;
+use store_layout::Part;
+use store_layout::Parts;
+
+// The place of a key, or where it would go.
+pub fn find(store: &[u8], key: &[u8]) -> Found
+    ensures { λ r. ⌜ Sought (now (store .entry)) (now (key .entry)) r ⌝ }
+{
+    let n = store.len() / 512;
+    let mut i: usize = 0;
+    let mut a: usize = 0;
+    while i < n {
+        if store[a] == 0 {
+            return Found::Gap(i);
+        }
+        let s = a + 8;
+        let e = s + store_block::wide(store[a + 1]);
+        match store_block::compare(key, &store[s..e]) {
+            Order::Less => return Found::Gap(i),
+            Order::Equal => return Found::At(i),
+            Order::Greater => {}
+        }
+        i += 1;
+        a += 512;
+    }
+    Found::Gap(i)
+}
+
+// Where the parts of the entry at a place lie; empty parts where there is none.
+pub fn entry_at(store: &[u8], i: usize) -> Parts
+    ensures { λ r. ⌜ EntryAt (now (store .entry)) i r ⌝ }
+{
+    if store.len() / 512 <= i {
+        return no_parts();
+    }
+    let a = i * 512;
+    let n = store_block::wide(store[a + 4]) * 256 + store_block::wide(store[a + 5]);
+    if 384 < n {
+        return no_parts();
+    }
+    let k = store_block::wide(store[a + 1]);
+    let v = store_block::wide(store[a + 2]);
+    let t = store_block::wide(store[a + 3]);
+    let key = Part {
+        start: a + 8,
+        len: k,
+    };
+    let version = Part {
+        start: a + 72,
+        len: v,
+    };
+    let tag = Part {
+        start: a + 88,
+        len: t,
+    };
+    let value = Part {
+        start: a + 120,
+        len: n,
+    };
+    let algorithm = store[a + 6];
+    Parts {
+        key,
+        version,
+        tag,
+        value,
+        algorithm,
+    }
+}
+
+fn no_parts() -> Parts
+    ensures { λ r. ⌜ r ≡ noParts ⌝ }
+{
+    let p = Part { start: 0, len: 0 };
+    Parts {
+        key: p,
+        version: p,
+        tag: p,
+        value: p,
+        algorithm: 0,
+    }
+}

@@ -1,0 +1,70 @@
+// A lent store: what calls on its entries answer, whether its size is right, and how many blocks are used.
+ghost use mathlib.Core.Path.{_≡_};
+ghost use lib.ListN.{length};
+ghost use Rattle.store_layout.specs.Store.{sizeGood, entriesOf, Good};
+
+// Where a key stands, or would stand.
+pub enum Found {
+    At(usize),
+    Gap(usize),
+}
+
+pub enum Place {
+    There(usize),
+    Nothing,
+}
+
+// Where a part of an entry lies in the store.
+pub struct Part {
+    pub start: usize,
+    pub len: usize,
+}
+
+pub struct Parts {
+    pub key: Part,
+    pub version: Part,
+    pub tag: Part,
+    pub value: Part,
+    pub algorithm: u8,
+}
+
+pub enum PutAnswer {
+    Stored,
+    Full,
+    Unfit,
+}
+
+pub enum DeleteAnswer {
+    Deleted,
+    Missing,
+}
+
+// Whether there are 1 to 128 whole blocks.
+pub fn size_good(store: &[u8]) -> bool
+    ensures { λ r. ⌜ r ≡ sizeGood (now (store .entry)) ⌝ }
+{
+    if store.len() < 512 {
+        return false;
+    }
+    if 65536 < store.len() {
+        return false;
+    }
+    store.len() % 512 == 0
+}
+
+// The number of used blocks.
+pub fn count(store: &[u8]) -> usize
+    ensures { λ r. ⌜ (Good (now (store .entry)) → r ≡ length (entriesOf (now (store .entry)))) ⌝ }
+{
+    let n = store.len() / 512;
+    let mut i: usize = 0;
+    let mut a: usize = 0;
+    while i < n {
+        if store[a] == 0 {
+            return i;
+        }
+        i += 1;
+        a += 512;
+    }
+    i
+}

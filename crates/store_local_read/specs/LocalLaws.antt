@@ -1,0 +1,68 @@
+-- Laws of local read: what each way through it says; a key that isn't 1 to 64 bytes is not found.
+use mathlib.Core.Path.{_≡_, refl, sym, ap, _∙_}
+use mathlib.Core.Bool.{Bool, true, false}
+use mathlib.Core.List.{List, [], _∷_}
+use Prim.Native.Nat.{ℕ, _+_, _≤_}
+use native.Mathlib.Omega.{arith}
+use lib.ListN.{length, getD}
+use Rattle.store_block.specs.declared.Order.{Order}
+use Rattle.store_block.specs.declared.Order.the-variants.{Less, Equal, Greater}
+use Rattle.store_block.specs.Order.{cmp}
+use Rattle.store_block.specs.OrderLaws.{cmp-equal}
+use Rattle.store_block.specs.Entry.{Entry, noEntry}
+use Rattle.store_layout.specs.declared.Found.{Found}
+use Rattle.store_layout.specs.declared.Found.the-variants.{At, Gap}
+use Rattle.store_layout.specs.Store.{entriesOf, storeGood, Good, AllFit}
+use Rattle.store_layout.specs.Check.{store-decides}
+use Rattle.store_layout.specs.Entries.{pick, byOrder, findFrom, findIn}
+use Rattle.store_local_read.specs.declared.Local.{Local}
+use Rattle.store_local_read.specs.declared.Local.the-variants.{NotFound, StoreBad}
+use Rattle.store_local_read.specs.Local.{found, notFound, storeBad, under, localOf, means, Inside, LocalIs}
+
+-- what value_at says of a place
+pub record ValueAt (l : List ℕ) (i : ℕ) (r : Local) : Type 0 where
+  pub inside : Inside l r
+  pub same : Good l → means l r ≡ found (getD (entriesOf l) i noEntry .value)
+
+module _ (l k : List ℕ) where
+  pub is-bad : storeGood l ≡ false → LocalIs l k StoreBad
+  unfolding localOf pick
+  is-bad h = record { inside = tt; same = sym (ap (λ (b : Bool). pick b (under (findIn k (entriesOf l)) (entriesOf l)) storeBad) h) }
+
+  pub good-store : storeGood l ≡ true → Good l
+  good-store h = store-decides l .yes h
+
+  judged : storeGood l ≡ true → localOf l k ≡ under (findIn k (entriesOf l)) (entriesOf l)
+  unfolding localOf pick
+  judged h = ap (λ (b : Bool). pick b (under (findIn k (entriesOf l)) (entriesOf l)) storeBad) h
+
+  pub is-found : storeGood l ≡ true → (i : ℕ) (r : Local) → At i ≡ findIn k (entriesOf l) → ValueAt l i r → LocalIs l k r
+  unfolding under
+  is-found h i r q v = record { inside = v .inside; same = v .same (good-store h) ∙ ap (λ (o : Found). under o (entriesOf l)) q ∙ sym (judged h) }
+
+  pub is-missing : storeGood l ≡ true → (i : ℕ) → Gap i ≡ findIn k (entriesOf l) → LocalIs l k NotFound
+  unfolding under
+  is-missing h i q = record { inside = tt; same = ap (λ (o : Found). under o (entriesOf l)) q ∙ sym (judged h) }
+
+-- ---- "not found (also for a key that isn't 1 to 64 bytes)"
+no-such : (j : ℕ) (k : List ℕ) (es : List Entry) → AllFit es → (1 ≤ length k → length k ≤ 64 → ⊥) → under (findFrom j k es) [] ≡ notFound
+unfolding findFrom under byOrder
+no-such j k [] fs h = refl
+no-such j k (x ∷ xs) (AllFit.more f fs) h = go (cmp k (x .key)) refl (no-such (j + 1) k xs fs h)
+  where
+    go : (o : Order) → cmp k (x .key) ≡ o → under (findFrom (j + 1) k xs) [] ≡ notFound → under (byOrder o (Gap j) (At j) (findFrom (j + 1) k xs)) [] ≡ notFound
+    go Less q ih = refl
+    go Equal q ih =
+        let e = ap length (cmp-equal k (x .key) q) in
+        let a = f .key-some in let b = f .key-fits in
+        absurd (h (omega arith) (omega arith))
+    go Greater q ih = ih
+
+missing-any : (o : Found) (es : List Entry) → under o [] ≡ notFound → under o es ≡ notFound
+unfolding under
+missing-any (At i) es h = absurd (let z : _≡_ {A = ℕ} 0 1 = cc in omega arith)
+missing-any (Gap i) es h = refl
+
+pub wrong-key : (l k : List ℕ) → storeGood l ≡ true → (1 ≤ length k → length k ≤ 64 → ⊥) → localOf l k ≡ notFound
+unfolding findIn
+wrong-key l k h n = judged l k h ∙ missing-any (findFrom 0 k (entriesOf l)) (entriesOf l) (no-such 0 k (entriesOf l) (good-store l k h .fit) n)

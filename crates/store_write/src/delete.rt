@@ -1,0 +1,50 @@
+// An entry deleted from a lent store.
+ghost use mathlib.Core.Path.{_≡_};
+ghost use Prim.Native.Nat.{_+_, _-_, _≤_, _<_};
+ghost use lib.ListN.{length, take, drop};
+ghost use Rattle.store_block.specs.Written.{over};
+ghost use Rattle.store_layout.specs.Store.{blocksIn, bytesOf, entriesOf, Good};
+ghost use Rattle.store_layout.specs.StoreLaws.{removeAt};
+ghost use Rattle.store_layout.specs.Entries.{deleteAnswer, deleteStore};
+use store_find::find;
+use store_layout::DeleteAnswer;
+use store_layout::Found;
+use store_layout::count;
+
+// Moves the bytes that stand a block above a up to e down to there.
+fn move_down(store: &mut [u8], a: usize, e: usize)
+    requires { ⌜ (a ≤ e) × (e + 512 ≤ length (now store)) ⌝ }
+    ensures { λ _. ⌜ now (store .exit) ≡ over (now (store .entry)) a (take (e - a) (drop (a + 512) (now (store .entry)))) ⌝ }
+{
+    let mut j = a;
+    while j < e {
+        store[j] = store[j + 512];
+        j += 1;
+    }
+}
+
+// Takes the block at a place out; those behind it move down, and the last used one becomes blank.
+fn remove(store: &mut [u8], i: usize)
+    requires { ⌜ Good (now store) × (i < length (entriesOf (now store))) ⌝ }
+    ensures { λ _. ⌜ now (store .exit) ≡ bytesOf (blocksIn (now (store .entry))) (removeAt i (entriesOf (now (store .entry)))) ⌝ }
+{
+    let last = count(store) * 512 - 512;
+    let a = i * 512;
+    move_down(store, a, last);
+    store_block::clear(store, last, 512);
+}
+
+// Removes the entry under a key; its room is used again.
+pub fn delete(store: &mut [u8], key: &[u8]) -> DeleteAnswer
+    requires { ⌜ Good (now store) ⌝ }
+    ensures { λ r. ⌜ r ≡ deleteAnswer (now (store .entry)) (now (key .entry)) ⌝ }
+    ensures { λ r. ⌜ now (store .exit) ≡ deleteStore (now (store .entry)) (now (key .entry)) ⌝ }
+{
+    match find(store, key) {
+        Found::At(i) => {
+            remove(store, i);
+            DeleteAnswer::Deleted
+        }
+        Found::Gap(_) => DeleteAnswer::Missing,
+    }
+}
