@@ -1,6 +1,6 @@
 #!/bin/sh
 # Measures the whole answering call against the plain C box (clang -O3) and OpenSSL's HMAC, in one run.
-# PLAIN_TWICE=1 puts the plain box on both sides, to try the program where crate abi is not proved.
+# PLAIN_TWICE=1 puts the plain box on both sides, to try the program where crate c_abi is not proved.
 set -eu
 cd "$(dirname "$0")/.."
 mkdir -p target/bench

@@ -6,6 +6,12 @@ ghost use Rattle.access_record.specs.Record.{scopeBytes, aclHead};
 ghost use Rattle.access_record_bytes.specs.Wrote.{Wrote};
 ghost use Rattle.access_table_write.specs.Write.{putAcl, putScope};
 use access_record::Record;
+use access_record::offsets::ACL_BYTES;
+use access_record::offsets::ACL_COUNT;
+use access_record::offsets::ACLS;
+use access_record::offsets::SCOPE_BYTES;
+use access_record::offsets::SCOPE_COUNT;
+use access_record::offsets::SCOPES;
 use access_record_bytes::flag_of;
 use access_record_bytes::put_bytes;
 use access_record_bytes::put_filled;
@@ -26,13 +32,15 @@ pub fn add_acl(device: &mut Record, place: usize, identity: u64, key: &[u8])
     requires { ⌜ (place < 8) × (length (now key) ≤ 64) ⌝ }
     ensures { λ _. ⌜ now (device .exit) ≡ putAcl (now (device .entry)) place identity (now (key .entry)) ⌝ }
 {
-    device[8] = place as u8 + 1;
-    put_acl(device, 16 + place * 368, identity, key);
+    device[ACL_COUNT] = place as u8 + 1;
+    put_acl(device, ACLS + place * ACL_BYTES, identity, key);
 }
 
 fn put_scope(out: &mut [u8], at: usize, offset: u8, mask: u16, tls: bool, value: &[u8]) -> usize
     requires { ⌜ (at + 72 ≤ length (now out)) × (length (now value) ≤ 64) ⌝ }
-    ensures { λ r. ⌜ Wrote at r (scopeBytes (record { offset = offset; value = now (value .entry); permissions = mask; tlsRequired = tls })) (now (out .entry)) (now (out .exit)) ⌝ }
+    ensures { λ r. ⌜ Wrote at r
+        (scopeBytes (record { offset = offset; value = now (value .entry); permissions = mask; tlsRequired = tls }))
+        (now (out .entry)) (now (out .exit)) ⌝ }
 {
     let head = [
         offset,
@@ -59,9 +67,17 @@ pub fn add_scope(
     value: &[u8],
 )
     requires { ⌜ (place < 8) × (number < 4) × (length (now value) ≤ 64) ⌝ }
-    ensures { λ _. ⌜ now (device .exit) ≡ putScope (now (device .entry)) place number (record { offset = offset; value = now (value .entry); permissions = mask; tlsRequired = tls }) ⌝ }
+    ensures { λ _. ⌜ now (device .exit) ≡ putScope (now (device .entry)) place number
+        (record { offset = offset; value = now (value .entry); permissions = mask; tlsRequired = tls }) ⌝ }
 {
-    let a = 16 + place * 368;
-    device[a + 9] = number as u8 + 1;
-    put_scope(device, a + 80 + number * 72, offset, mask, tls, value);
+    let a = ACLS + place * ACL_BYTES;
+    device[a + SCOPE_COUNT] = number as u8 + 1;
+    put_scope(
+        device,
+        a + SCOPES + number * SCOPE_BYTES,
+        offset,
+        mask,
+        tls,
+        value,
+    );
 }

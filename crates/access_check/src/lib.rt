@@ -1,13 +1,24 @@
 // Is the device record good?
 ghost use mathlib.Core.Path.{_≡_};
 ghost use Prim.Native.Nat.{_+_, _*_, _≤_};
-ghost use Rattle.access_record.specs.Table.{all, maskGood, scopeGood, aclGood, aclsGood, tableGood};
+ghost use Rattle.base_definitions.specs.Lists.{all};
+ghost use Rattle.access_record.specs.Table.{maskGood, scopeGood, aclGood, aclsGood, tableGood};
 ghost use Rattle.access_record.specs.Record.{scopeAt, scopesAt, aclAt, aclsAt, tableOf};
 use access_identity::find_from;
 use access_record::Found;
 use access_record::Record;
+use access_record::offsets::ACL_BYTES;
+use access_record::offsets::ACL_COUNT;
+use access_record::offsets::ACLS;
+use access_record::offsets::KEY_LENGTH;
+use access_record::offsets::PERMISSIONS;
+use access_record::offsets::PERMISSIONS_LOW;
+use access_record::offsets::SCOPE_BYTES;
+use access_record::offsets::SCOPE_COUNT;
+use access_record::offsets::SCOPES;
+use access_record::offsets::VALUE_LENGTH;
 use access_record::word_at;
-use base_integers::count;
+use base_integers::as_usize::wide;
 
 fn mask_good(mask: usize) -> bool
     ensures { λ r. ⌜ r ≡ maskGood mask ⌝ }
@@ -28,10 +39,10 @@ fn scope_good(device: &Record, a: usize) -> bool
     if 64 < device[a] {
         return false;
     }
-    if 64 < device[a + 1] {
+    if 64 < device[a + VALUE_LENGTH] {
         return false;
     }
-    mask_good(count(device[a + 2]) * 256 + count(device[a + 3]))
+    mask_good(wide(device[a + PERMISSIONS]) * 256 + wide(device[a + PERMISSIONS_LOW]))
 }
 
 fn scopes_good(device: &Record, a: usize, n: usize) -> bool
@@ -44,7 +55,7 @@ fn scopes_good(device: &Record, a: usize, n: usize) -> bool
         if !scope_good(device, at) {
             return false;
         }
-        at += 72;
+        at += SCOPE_BYTES;
         left -= 1;
     }
     true
@@ -54,8 +65,8 @@ fn acl_good(device: &Record, a: usize) -> bool
     requires { ⌜ a + 368 ≤ 2960 ⌝ }
     ensures { λ r. ⌜ r ≡ aclGood (aclAt (now (device .entry)) a) ⌝ }
 {
-    let k = device[a + 8];
-    let n = count(device[a + 9]);
+    let k = device[a + KEY_LENGTH];
+    let n = wide(device[a + SCOPE_COUNT]);
     if k < 1 {
         return false;
     }
@@ -68,21 +79,21 @@ fn acl_good(device: &Record, a: usize) -> bool
     if 4 < n {
         return false;
     }
-    scopes_good(device, a + 80, n)
+    scopes_good(device, a + SCOPES, n)
 }
 
 fn acls_good(device: &Record, n: usize) -> bool
     requires { ⌜ 16 + n * 368 ≤ 2960 ⌝ }
     ensures { λ r. ⌜ r ≡ aclsGood (aclsAt (now (device .entry)) 16 n) ⌝ }
 {
-    let mut at: usize = 16;
+    let mut at: usize = ACLS;
     let mut left = n;
     while 0 < left {
         if !acl_good(device, at) {
             return false;
         }
         let identity = word_at(device, at);
-        at += 368;
+        at += ACL_BYTES;
         left -= 1;
         match find_from(device, at, left, 0, identity) {
             Found::Nobody => {}
@@ -96,7 +107,7 @@ fn acls_good(device: &Record, n: usize) -> bool
 pub fn record_good(device: &Record) -> bool
     ensures { λ r. ⌜ r ≡ tableGood (tableOf (now (device .entry))) ⌝ }
 {
-    let n = count(device[8]);
+    let n = wide(device[ACL_COUNT]);
     if n < 1 {
         return false;
     }

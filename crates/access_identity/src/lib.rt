@@ -6,8 +6,13 @@ ghost use Rattle.access_record.specs.Table.{tableGood, findFrom, placeOf, aclOf
 ghost use Rattle.access_record.specs.Record.{aclsAt, tableOf, Placed};
 use access_record::Found;
 use access_record::Record;
+use access_record::offsets::ACL_BYTES;
+use access_record::offsets::ACL_COUNT;
+use access_record::offsets::ACLS;
+use access_record::offsets::KEY;
+use access_record::offsets::KEY_LENGTH;
 use access_record::word_at;
-use base_integers::count;
+use base_integers::as_usize::wide;
 
 // The first of n ACLs from byte a on that has the identity, counted from i.
 pub fn find_from(device: &Record, a: usize, n: usize, i: usize, identity: u64) -> Found
@@ -21,7 +26,7 @@ pub fn find_from(device: &Record, a: usize, n: usize, i: usize, identity: u64) -
         if word_at(device, at) == identity {
             return Found::At(j);
         }
-        at += 368;
+        at += ACL_BYTES;
         left -= 1;
         j += 1;
     }
@@ -32,7 +37,7 @@ pub fn find_identity(device: &Record, identity: u64) -> Found
     requires { ⌜ tableGood (tableOf (now device)) ≡ true ⌝ }
     ensures { λ r. ⌜ r ≡ placeOf (tableOf (now (device .entry))) identity ⌝ }
 {
-    find_from(device, 16, count(device[8]), 0, identity)
+    find_from(device, ACLS, wide(device[ACL_COUNT]), 0, identity)
 }
 
 // The key at a place, as a part of the record.
@@ -40,9 +45,9 @@ pub fn key_of(device: &Record, place: usize) -> &[u8]
     requires { ⌜ Placed (now device) place ⌝ }
     ensures { λ r. ⌜ now r ≡ aclOf (tableOf (now (device .entry))) place .key ⌝ }
 {
-    let a = 16 + place * 368;
-    let start = a + 16;
-    let end = start + count(device[a + 8]);
+    let a = ACLS + place * ACL_BYTES;
+    let start = a + KEY;
+    let end = start + wide(device[a + KEY_LENGTH]);
     let bytes = &device[..];
     &bytes[start..end]
 }

@@ -1,2 +1,4 @@
+pub mod Permissions
 pub mod Permission
-pub mod Verdict
+pub mod Granted
+pub mod VerdictLaws

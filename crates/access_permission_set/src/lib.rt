@@ -1,7 +1,8 @@
 // Sets of small numbers as bits, and the permissions that a scope may list.
 ghost use mathlib.Core.Path.{_≡_};
 ghost use Prim.Native.Nat.{_<_};
-ghost use Rattle.access_record.specs.Table.{named, withBit};
+ghost use Rattle.base_definitions.specs.Bits.{withBit};
+ghost use Rattle.access_record.specs.Table.{named};
 
 // Is this one of the permissions that a scope may list?
 pub fn is_permission(p: u64) -> bool

@@ -1,7 +1,10 @@
+pub mod Offsets
 pub mod Table
 pub mod Record
-pub mod Laws
-pub mod Lookup
-pub mod Bits
+pub mod Places
+pub mod TableLaws
+pub mod LookupLaws
 pub mod Mask
-pub mod Readback
+pub mod MaskLaws
+pub mod Roomy
+pub mod ReadbackLaws

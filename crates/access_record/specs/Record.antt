@@ -10,8 +10,11 @@ use mathlib.Core.Bool.{Bool, true, false, not}
 use mathlib.Core.List.{List, [], _∷_, _++_}
 use Prim.Native.Nat.{ℕ, zero, suc, _+_, _-_, _*_, _/_, _%_, _<_}
 use lib.Dec.{eqb}
-use lib.ListN.{length, drop, getD, replicate}
+use lib.ListN.{length, drop, getD}
+use Rattle.base_definitions.specs.Lists.{fill}
+use Rattle.base_definitions.specs.BigEndian.{be32}
 use Rattle.access_record.specs.Table.{Scope, Acl, Table, tableGood}
+use Rattle.access_record.specs.Offsets.{ACL-COUNT, ACLS, ACL-BYTES, KEY-LENGTH, SCOPE-COUNT, KEY, SCOPES, SCOPE-BYTES, VALUE-LENGTH, PERMISSIONS, TLS-REQUIRED, VALUE}
 
 -- ---- the table that a record holds: total, since past the end of the list every byte is 0
 
@@ -29,41 +32,34 @@ unfoldable pub scopeAt : List ℕ → ℕ → Scope
 scopeAt l a =
     record {
       offset = getD l a 0;
-      value = bytesAt l (a + 8) (getD l (a + 1) 0);
-      permissions = getD l (a + 2) 0 * 256 + getD l (a + 3) 0;
-      tlsRequired = not (eqb (getD l (a + 4) 0) 0);
+      value = bytesAt l (a + VALUE) (getD l (a + VALUE-LENGTH) 0);
+      permissions = getD l (a + PERMISSIONS) 0 * 256 + getD l (a + (PERMISSIONS + 1)) 0;
+      tlsRequired = not (eqb (getD l (a + TLS-REQUIRED) 0) 0);
     }
 
 unfoldable pub scopesAt : List ℕ → ℕ → ℕ → List Scope
 scopesAt l a zero = []
-scopesAt l a (suc n) = scopeAt l a ∷ scopesAt l (a + 72) n
+scopesAt l a (suc n) = scopeAt l a ∷ scopesAt l (a + SCOPE-BYTES) n
 
 unfoldable pub aclAt : List ℕ → ℕ → Acl
 aclAt l a =
     record {
       identity = wordAt l a;
-      key = bytesAt l (a + 16) (getD l (a + 8) 0);
-      scopes = scopesAt l (a + 80) (getD l (a + 9) 0);
+      key = bytesAt l (a + KEY) (getD l (a + KEY-LENGTH) 0);
+      scopes = scopesAt l (a + SCOPES) (getD l (a + SCOPE-COUNT) 0);
     }
 
 unfoldable pub aclsAt : List ℕ → ℕ → ℕ → List Acl
 aclsAt l a zero = []
-aclsAt l a (suc n) = aclAt l a ∷ aclsAt l (a + 368) n
+aclsAt l a (suc n) = aclAt l a ∷ aclsAt l (a + ACL-BYTES) n
 
 unfoldable pub tableOf : List ℕ → Table
-tableOf l = record { clusterVersion = wordAt l 0; acls = aclsAt l 16 (getD l 8 0) }
+tableOf l = record { clusterVersion = wordAt l 0; acls = aclsAt l ACLS (getD l ACL-COUNT 0) }
 
 -- ---- the record of a table, every byte decided
 
--- xs and then zeros, n in all
-unfoldable pub fill : ℕ → List ℕ → List ℕ
-fill n xs = xs ++ replicate (n - length xs) 0
-
-unfoldable pub halfBytes : ℕ → List ℕ
-halfBytes h = (h / 16777216) ∷ (h / 65536 % 256) ∷ (h / 256 % 256) ∷ (h % 256) ∷ []
-
 unfoldable pub wordBytes : ℕ → List ℕ
-wordBytes w = halfBytes (w / 4294967296) ++ halfBytes (w % 4294967296)
+wordBytes w = be32 (w / 4294967296) ++ be32 (w % 4294967296)
 
 abbrev pub flag : Bool → ℕ
 flag true = 1

@@ -1,10 +1,12 @@
 -- The table of identities and its rules. Document 01, "The order of judgement", step 8, and refusal 3.
-use mathlib.Core.Bool.{Bool, true, false}
+use mathlib.Core.Bool.{Bool, true, false, cond, _&&_, _||_}
 use mathlib.Core.List.{List, [], _∷_}
-use Prim.Native.Nat.{ℕ, _+_, _/_, _%_, _^_}
+use Prim.Native.Nat.{ℕ, _+_, _/_, _%_}
 use lib.Dec.{eqb, leb}
 use lib.ListN.{length, getD}
 use Rattle.access_record.specs.declared.Found.{Found}
+use Rattle.base_definitions.specs.Lists.{all, within}
+use Rattle.base_definitions.specs.Bits.{withBit}
 use Rattle.access_record.specs.declared.Found.the-variants.{At, Nobody}
 
 -- ---- the table
@@ -29,52 +31,11 @@ pub record Table : Type 0 where
 
 -- ---- tests
 
-abbrev pub both : Bool → Bool → Bool
-both true b = b
-both false b = false
-
-abbrev pub either : Bool → Bool → Bool
-either true b = true
-either false b = b
-
-unfoldable pub all : {A : Type 0} → (A → Bool) → List A → Bool
-all f [] = true
-all f (x ∷ xs) = both (f x) (all f xs)
-
-unfoldable pub any : {A : Type 0} → (A → Bool) → List A → Bool
-any f [] = false
-any f (x ∷ xs) = either (f x) (any f xs)
-
-abbrev pub within : ℕ → ℕ → ℕ → Bool
-within a b n = both (leb a n) (leb n b)
-
-abbrev pub isEmpty : List ℕ → Bool
-isEmpty [] = true
-isEmpty (x ∷ xs) = false
-
-unfoldable pub sameBytes : List ℕ → List ℕ → Bool
-sameBytes [] [] = true
-sameBytes [] (y ∷ ys) = false
-sameBytes (x ∷ xs) [] = false
-sameBytes (x ∷ xs) (y ∷ ys) = both (eqb x y) (sameBytes xs ys)
-
 -- ---- sets of permissions
 
 -- "permissions among 0-5, 7, 8, 9"
 unfoldable pub named : ℕ → Bool
-named p = either (leb p 5) (within 7 9 p)
-
--- permission p is in the set
-unfoldable pub bit : ℕ → ℕ → Bool
-bit m p = eqb (m / 2 ^ p % 2) 1
-
-abbrev pub pickMask : Bool → ℕ → ℕ → ℕ
-pickMask true a b = a
-pickMask false a b = b
-
--- the set with p in it
-unfoldable pub withBit : ℕ → ℕ → ℕ
-withBit m p = pickMask (bit m p) m (m + 2 ^ p)
+named p = leb p 5 || within 7 9 p
 
 -- "Permissions come one per field": the set of those that are listed
 unfoldable pub maskOf : List ℕ → ℕ
@@ -91,22 +52,18 @@ scopeOf offset value ps tlsRequired =
 
 -- at least one permission, and only named ones
 unfoldable pub maskGood : ℕ → Bool
-maskGood m = both (leb 1 m) (both (leb m 1023) (eqb (m / 64 % 2) 0))
+maskGood m = leb 1 m && (leb m 1023 && eqb (m / 64 % 2) 0)
 
 unfoldable pub scopeGood : Scope → Bool
-scopeGood s = both (leb (s .offset) 64) (both (leb (length (s .value)) 64) (maskGood (s .permissions)))
+scopeGood s = leb (s .offset) 64 && (leb (length (s .value)) 64 && maskGood (s .permissions))
 
 unfoldable pub aclGood : Acl → Bool
-aclGood a = both (within 1 64 (length (a .key))) (both (within 1 4 (length (a .scopes))) (all scopeGood (a .scopes)))
-
-abbrev pub pickFound : Bool → Found → Found → Found
-pickFound true a b = a
-pickFound false a b = b
+aclGood a = within 1 64 (length (a .key)) && (within 1 4 (length (a .scopes)) && all scopeGood (a .scopes))
 
 -- the first ACL that has the identity, counted from i
 unfoldable pub findFrom : ℕ → ℕ → List Acl → Found
 findFrom i w [] = Nobody
-findFrom i w (a ∷ rest) = pickFound (eqb (a .identity) w) (At i) (findFrom (i + 1) w rest)
+findFrom i w (a ∷ rest) = cond (eqb (a .identity) w) (At i) (findFrom (i + 1) w rest)
 
 abbrev pub isNobody : Found → Bool
 isNobody Nobody = true
@@ -115,10 +72,10 @@ isNobody (At i) = false
 -- each ACL is good, and none after it has its identity
 unfoldable pub aclsGood : List Acl → Bool
 aclsGood [] = true
-aclsGood (a ∷ rest) = both (aclGood a) (both (isNobody (findFrom 0 (a .identity) rest)) (aclsGood rest))
+aclsGood (a ∷ rest) = aclGood a && (isNobody (findFrom 0 (a .identity) rest) && aclsGood rest)
 
 unfoldable pub tableGood : Table → Bool
-tableGood t = both (within 1 8 (length (t .acls))) (aclsGood (t .acls))
+tableGood t = within 1 8 (length (t .acls)) && aclsGood (t .acls)
 
 -- ---- look-up
 

@@ -1,21 +1,20 @@
 // The device record, its words and its cluster version.
+pub mod offsets;
+
 ghost use mathlib.Core.Path.{_≡_};
 ghost use Prim.Native.Nat.{_+_, _<_, _≤_};
 ghost use Rattle.access_record.specs.Record.{halfAt, wordAt, tableOf};
 
 // The device record: the table of identities and the cluster version.
-pub type Record = [u8; 2960];
+use crate::offsets::RECORD_BYTES;
+use base_integers::as_u64::wide;
+
+pub type Record = [u8; RECORD_BYTES];
 
 // The place of an identity in the table.
 pub enum Found {
     At(usize),
     Nobody,
-}
-
-fn wide(x: u8) -> u64
-    ensures { λ r. ⌜ (r ≡ x) × (r < 256) ⌝ }
-{
-    x as u64
 }
 
 // Numbers are big-endian.

@@ -2,7 +2,8 @@
 ghost use mathlib.Core.Path.{_≡_};
 ghost use Prim.Native.Nat.{_+_, _≤_};
 ghost use lib.ListN.{length, replicate};
-ghost use Rattle.access_record.specs.Record.{fill, flag, wordBytes};
+ghost use Rattle.base_definitions.specs.Lists.{fill};
+ghost use Rattle.access_record.specs.Record.{flag, wordBytes};
 ghost use Rattle.access_record_bytes.specs.Wrote.{Wrote};
 
 pub fn put_bytes(out: &mut [u8], at: usize, src: &[u8]) -> usize

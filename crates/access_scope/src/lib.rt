@@ -1,9 +1,9 @@
 // What one scope must do to grant a permission: hold it, allow the connection, and fit the key.
 ghost use mathlib.Core.Path.{_≡_};
-ghost use mathlib.Core.Bool.{not};
+ghost use mathlib.Core.Bool.{not, _||_};
 ghost use Prim.Native.Nat.{_+_, _<_, _≤_};
 ghost use lib.Dec.{eqb};
-ghost use Rattle.access_record.specs.Table.{bit, either};
+ghost use Rattle.base_definitions.specs.Bits.{bit};
 ghost use Rattle.access_record.specs.Record.{bytesAt};
 ghost use Rattle.access_permission.specs.Permission.{fitsAt};
 use access_record::Record;
@@ -17,7 +17,7 @@ pub fn holds(mask: usize, permission: u8) -> bool
 
 // TlsRequired means protected only.
 pub fn allows(tls: u8, protected: bool) -> bool
-    ensures { λ r. ⌜ r ≡ either (not (not (eqb tls 0))) protected ⌝ }
+    ensures { λ r. ⌜ r ≡ (not (not (eqb tls 0)) || protected) ⌝ }
 {
     if protected {
         return true;

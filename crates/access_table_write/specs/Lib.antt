@@ -1,3 +1,3 @@
 pub mod Write
-pub mod Fill
-pub mod Written
+pub mod FillLaws
+pub mod WrittenLaws

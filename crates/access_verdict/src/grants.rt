@@ -2,14 +2,25 @@
 ghost use mathlib.Core.Path.{_≡_};
 ghost use mathlib.Core.Bool.{true};
 ghost use Prim.Native.Nat.{_+_, _*_, _<_, _≤_};
-ghost use Rattle.access_record.specs.Table.{any, scopeGood};
+ghost use Rattle.base_definitions.specs.Lists.{any};
+ghost use Rattle.access_record.specs.Table.{scopeGood};
 ghost use Rattle.access_record.specs.Record.{scopeAt, aclAt, Placed};
 ghost use Rattle.access_permission.specs.Permission.{grants};
 use access_record::Record;
+use access_record::offsets::ACL_BYTES;
+use access_record::offsets::ACLS;
+use access_record::offsets::PERMISSIONS;
+use access_record::offsets::PERMISSIONS_LOW;
+use access_record::offsets::SCOPE_BYTES;
+use access_record::offsets::SCOPE_COUNT;
+use access_record::offsets::SCOPES;
+use access_record::offsets::TLS_REQUIRED;
+use access_record::offsets::VALUE;
+use access_record::offsets::VALUE_LENGTH;
 use access_scope::allows;
 use access_scope::fits_at;
 use access_scope::holds;
-use base_integers::count;
+use base_integers::as_usize::wide;
 
 fn scope_grants(
     device: &Record,
@@ -23,18 +34,24 @@ fn scope_grants(
     ensures { λ r. ⌜ r ≡ grants counts (now (key .entry)) protected permission (scopeAt (now (device .entry)) a) ⌝ }
 {
     if !holds(
-        count(device[a + 2]) * 256 + count(device[a + 3]),
+        wide(device[a + PERMISSIONS]) * 256 + wide(device[a + PERMISSIONS_LOW]),
         permission,
     ) {
         return false;
     }
-    if !allows(device[a + 4], protected) {
+    if !allows(device[a + TLS_REQUIRED], protected) {
         return false;
     }
     if !counts {
         return true;
     }
-    fits_at(device, a + 8, count(device[a + 1]), key, count(device[a]))
+    fits_at(
+        device,
+        a + VALUE,
+        wide(device[a + VALUE_LENGTH]),
+        key,
+        wide(device[a]),
+    )
 }
 
 pub fn acl_grants(
@@ -48,14 +65,14 @@ pub fn acl_grants(
     requires { ⌜ Placed (now device) place × (permission < 16) ⌝ }
     ensures { λ r. ⌜ r ≡ any (grants counts (now (key .entry)) protected permission) (aclAt (now (device .entry)) (16 + place * 368) .scopes) ⌝ }
 {
-    let a = 16 + place * 368;
-    let mut at = a + 80;
-    let mut left = count(device[a + 9]);
+    let a = ACLS + place * ACL_BYTES;
+    let mut at = a + SCOPES;
+    let mut left = wide(device[a + SCOPE_COUNT]);
     while 0 < left {
         if scope_grants(device, at, counts, key, protected, permission) {
             return true;
         }
-        at += 72;
+        at += SCOPE_BYTES;
         left -= 1;
     }
     false

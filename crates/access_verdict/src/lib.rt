@@ -1,3 +1,3 @@
-// Whether one scope, or some scope of an ACL, grants a permission. Who may do what: the verdict on a permission.
+// Who may do what: the verdict on a permission, and whether a scope or an ACL grants it.
 pub mod grants;
 pub mod verdict;

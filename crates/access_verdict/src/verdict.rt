@@ -3,39 +3,20 @@ ghost use mathlib.Core.Path.{_≡_};
 ghost use Prim.Native.Nat.{_<_};
 ghost use Rattle.access_record.specs.Table.{aclOf};
 ghost use Rattle.access_record.specs.Record.{tableOf, Placed};
-ghost use Rattle.access_permission.specs.Permission.{keyed, permits, permitsAny, permitsRange};
+ghost use Rattle.access_permission.specs.Permission.{permits, permitsAny, permitsRange};
 use crate::grants::acl_grants;
 use access_permission::RANGE;
-use access_permission::SECURITY;
-use access_permission::SETUP;
 use access_record::Record;
-
-// SETUP and SECURITY fit any key.
-fn key_counts(permission: u8) -> bool
-    ensures { λ r. ⌜ r ≡ keyed permission ⌝ }
-{
-    if permission == SETUP {
-        return false;
-    }
-    permission != SECURITY
-}
 
 // One scope at the place holds the permission, allows the connection and fits the key.
 pub fn permits(device: &Record, place: usize, protected: bool, permission: u8, key: &[u8]) -> bool
     requires { ⌜ Placed (now device) place × (permission < 16) ⌝ }
     ensures { λ r. ⌜ r ≡ permits (aclOf (tableOf (now (device .entry))) place) protected permission (now (key .entry)) ⌝ }
 {
-    acl_grants(
-        device,
-        place,
-        key_counts(permission),
-        key,
-        protected,
-        permission,
-    )
+    acl_grants(device, place, true, key, protected, permission)
 }
 
-// The same with no key.
+// The same with no key: SETUP, SECURITY and GETLOG fit any.
 pub fn permits_any(device: &Record, place: usize, protected: bool, permission: u8) -> bool
     requires { ⌜ Placed (now device) place × (permission < 16) ⌝ }
     ensures { λ r. ⌜ r ≡ permitsAny (aclOf (tableOf (now (device .entry))) place) protected permission ⌝ }

@@ -1,6 +1,9 @@
 // Numbers in other widths: signed ones are 64-bit two's complement.
+pub mod as_u32;
+pub mod as_u64;
+pub mod as_usize;
+
 ghost use mathlib.Core.Path.{_≡_};
-ghost use Prim.Native.Nat.{_<_};
 ghost use Rattle.base_integers.specs.Signed.{signedOf, wordOf};
 
 // The number that a word stands for.
@@ -23,11 +26,4 @@ pub fn word(x: i64) -> u64
         return 18446744073709551615 - (w as u64);
     }
     x as u64
-}
-
-// A byte as a length.
-pub fn count(x: u8) -> usize
-    ensures { λ r. ⌜ (r ≡ x) × (r < 256) ⌝ }
-{
-    x as usize
 }

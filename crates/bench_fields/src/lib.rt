@@ -1,7 +1,7 @@
 // The reading of a command for C, as the benchmark links it.
+ghost use mathlib.Core.Bool.{cond};
 ghost use mathlib.Core.Path.{_≡_};
 ghost use Prim.Native.Nat.{_<_};
-ghost use Rattle.fields_wire.specs.Reader.{choose};
 ghost use Rattle.fields_schema.specs.Tree.{isSome, listed};
 ghost use Rattle.fields_decode.specs.Slots.{Sized};
 ghost use Rattle.protocol.specs.Reading.{decodes};
@@ -13,7 +13,7 @@ use request_command::Request;
 use request_command::read_request;
 
 fn answer(decodes: bool) -> u32
-    ensures { λ r. ⌜ r ≡ choose decodes 0 1 ⌝ }
+    ensures { λ r. ⌜ r ≡ cond decodes 0 1 ⌝ }
 {
     if decodes {
         return 0;
@@ -24,7 +24,7 @@ fn answer(decodes: bool) -> u32
 // 0 if the command decodes, else 1.
 #[no_mangle]
 pub extern "C" fn fields_reads(s: &[u8]) -> u32
-    ensures { λ r. ⌜ r ≡ choose (isSome (listed (Kind.Command) (now (s .entry)))) 0 1 ⌝ }
+    ensures { λ r. ⌜ r ≡ cond (isSome (listed (Kind.Command) (now (s .entry)))) 0 1 ⌝ }
 {
     answer(reads(s, Kind::Command))
 }
@@ -94,7 +94,7 @@ fn values(s: &[u8], out: &mut [u64; 16]) {
 // 0 if the command decodes, and then what that of a PUT holds, for measuring alone: no promise says what is written; else 1.
 #[no_mangle]
 pub extern "C" fn fields_put(s: &[u8], out: &mut [u64; 16]) -> u32
-    ensures { λ r. ⌜ r ≡ choose (isSome (listed (Kind.Command) (now (s .entry)))) 0 1 ⌝ }
+    ensures { λ r. ⌜ r ≡ cond (isSome (listed (Kind.Command) (now (s .entry)))) 0 1 ⌝ }
 {
     let decodes = reads(s, Kind::Command);
     if decodes {
@@ -125,7 +125,7 @@ fn asked(r: Request, out: &mut [u64; 16]) {
 // As the box reads it, with every field of a request: 0 if the command decodes, and then what that of a PUT holds, for measuring alone; else 1.
 #[no_mangle]
 pub extern "C" fn fields_request(s: &[u8], out: &mut [u64; 16]) -> u32
-    ensures { λ r. ⌜ r ≡ choose (isSome (decodes (now (s .entry)))) 0 1 ⌝ }
+    ensures { λ r. ⌜ r ≡ cond (isSome (decodes (now (s .entry)))) 0 1 ⌝ }
 {
     let r = read_request(s);
     let ok = r.ok;

@@ -32,7 +32,8 @@ pub extern "C" fn rt_put(
     algorithm: u8,
 ) -> u32
     requires { ⌜ Good (now store) × Sized (entry (now key) (now version) (now tag) (now value) algorithm) ⌝ }
-    ensures { λ r. ⌜ now (store .exit) ≡ putStore (now (store .entry)) (entry (now (key .entry)) (now (version .entry)) (now (tag .entry)) (now (value .entry)) algorithm) ⌝ }
+    ensures { λ r. ⌜ now (store .exit) ≡ putStore (now (store .entry))
+        (entry (now (key .entry)) (now (version .entry)) (now (tag .entry)) (now (value .entry)) algorithm) ⌝ }
 {
     match store_write::put::put(store, key, version, tag, value, algorithm) {
         PutAnswer::Stored => 0,

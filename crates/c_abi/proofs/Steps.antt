@@ -8,12 +8,13 @@ use Rattle.protocol.specs.State as state
 use Rattle.protocol.specs.State.{State, lent}
 use Rattle.protocol.specs.Answer.{Outcome, refused, answered}
 use Rattle.protocol.specs.Box.{answers}
-use Rattle.protocol_connection.specs.Means.{connectionOf}
+use Rattle.protocol_connection.specs.ConnectionOf.{connectionOf}
 use Rattle.c_connection.specs.Layout.{connectionAt, becomes}
-use Rattle.c_connection.specs.Follows.{Leaves, answers-leave}
+use Rattle.c_connection.specs.FollowsLaws.{answers-leave}
+use Rattle.c_connection.specs.Follows.{Leaves}
 use Rattle.device_response.specs.declared.Response.{Response}
 use Rattle.device_response.specs.declared.Response.the-variants.{OutShort, StoreBad, DeviceBad, Closed, More, ReadingsBad, Answered}
-use Rattle.device_response.specs.Means.{Called, refusing, answering, called, afterwards}
+use Rattle.device_response.specs.Called.{Called, refusing, answering, called, afterwards}
 use Rattle.c_abi.specs.Calls.{Left, left, leaves, answerCall}
 use Rattle.c_calls.specs.Notes.{Noted, notes}
 

@@ -20,7 +20,7 @@ pub record Left : Type 0 where
 abbrev pub left : ℕ → List ℕ → List ℕ → List ℕ → List ℕ → List ℕ → Left
 left n store device connection out counts = record { number = n; store = store; device = device; connection = connection; out = out; counts = counts }
 
--- "A refusal writes no lent byte at all"; else the reply stands in the first bytes of `out`, and `counts` holds what was taken and written
+-- a refusal writes no lent byte at all; else the reply stands in the first bytes of `out`, and `counts` holds what was taken and written
 abbrev pub leaves : List ℕ → List ℕ → List ℕ → List ℕ → List ℕ → Outcome State → Left
 leaves store device connection out counts (refused n) = left n store device connection out counts
 leaves store device connection out counts (answered bytes s taken) =

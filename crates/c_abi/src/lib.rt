@@ -41,7 +41,9 @@ pub extern "C" fn ridgeladle_answer(
     out: &mut [u8],
     counts: &mut [u64; 2],
 ) -> u32
-    ensures { λ r. ⌜ left r (now (store .exit)) (now (device .exit)) (now (connection .exit)) (now (out .exit)) (now (counts .exit)) ≡ answerCall (now (store .entry)) (now (device .entry)) (now (connection .entry)) (now (readings .entry)) (now (input .entry)) (now (out .entry)) (now (counts .entry)) ⌝ }
+    ensures { λ r. ⌜ left r (now (store .exit)) (now (device .exit)) (now (connection .exit)) (now (out .exit)) (now (counts .exit))
+        ≡ answerCall (now (store .entry)) (now (device .entry)) (now (connection .entry)) (now (readings .entry)) (now (input .entry))
+        (now (out .entry)) (now (counts .entry)) ⌝ }
 {
     let c = c_connection::layout::connection_at(connection);
     let r = device::answer(store, device, readings, c, input, out);

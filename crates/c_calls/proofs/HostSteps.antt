@@ -4,7 +4,7 @@ use mathlib.Core.List.{List}
 use Prim.Native.Nat.{ℕ}
 use Rattle.protocol.specs.Format.{Told}
 use Rattle.device_format.specs.declared.Formatted.{Formatted}
-use Rattle.device_format.specs.Means.{formatNumber}
+use Rattle.device_format.specs.FormatNumber.{formatNumber}
 
 -- ---- format
 pub formatted : {store device key store' device' : List ℕ} {r : Formatted} (x : Formatted) → r ≡ x

@@ -19,7 +19,7 @@ pub record Holds (store part value : List ℕ) : Type 0 where
   pub inside : getD part 0 0 + getD part 1 0 ≤ length store
   pub same : take (getD part 1 0) (drop (getD part 0 0) store) ≡ value
 
--- "part is written only where found". Which of several equal parts is left undecided
+-- the part is written only where found. Which of several equal parts is left undecided
 abbrev pub partLeft : List ℕ → List ℕ → List ℕ → local.Outcome → Type 0
 partLeft store before after (found v) = Holds store after v
 partLeft store before after notFound = after ≡ before

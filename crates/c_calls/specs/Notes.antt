@@ -1,7 +1,7 @@
 -- What a response of the answering call leaves of the connection and the counts, and its number.
 use mathlib.Core.List.{List, [], _∷_}
 use Prim.Native.Nat.{ℕ}
-use Rattle.protocol_connection.specs.Means.{connectionOf}
+use Rattle.protocol_connection.specs.ConnectionOf.{connectionOf}
 use Rattle.c_connection.specs.Layout.{becomes}
 use Rattle.device_response.specs.declared.Response.{Response}
 use Rattle.device_response.specs.declared.Response.the-variants.{OutShort, StoreBad, DeviceBad, Closed, More, ReadingsBad, Answered}

@@ -1,3 +1,5 @@
+pub mod Offsets
 pub mod Layout
 pub mod Follows
-pub mod Laws
+pub mod FollowsLaws
+pub mod LayoutLaws

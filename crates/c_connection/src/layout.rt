@@ -2,17 +2,16 @@
 ghost use mathlib.Core.Path.{_≡_};
 ghost use Prim.Native.Nat.{_+_, _≤_, _<_};
 ghost use Rattle.access_record.specs.Record.{halfAt, wordAt};
-ghost use Rattle.protocol_connection.specs.Means.{connectionOf};
+ghost use Rattle.protocol_connection.specs.ConnectionOf.{connectionOf};
 ghost use Rattle.c_connection.specs.Layout.{connectionAt};
+use crate::offsets::CLOSED;
+use crate::offsets::LAST;
+use crate::offsets::PROTECTED;
+use crate::offsets::SEEN;
+use base_integers::as_u64::wide;
 use protocol_connection::Connection;
 
 pub type Bytes = [u8; 32];
-
-fn wide(x: u8) -> u64
-    ensures { λ r. ⌜ (r ≡ x) × (r < 256) ⌝ }
-{
-    x as u64
-}
 
 // Numbers are big-endian.
 fn half_at(bytes: &Bytes, a: usize) -> u64
@@ -38,9 +37,9 @@ pub fn connection_at(bytes: &Bytes) -> Connection
 {
     Connection {
         number: word_at(bytes, 0),
-        protected: bytes[8] != 0,
-        closed: bytes[9] != 0,
-        seen: bytes[10] != 0,
-        last: word_at(bytes, 16),
+        protected: bytes[PROTECTED] != 0,
+        closed: bytes[CLOSED] != 0,
+        seen: bytes[SEEN] != 0,
+        last: word_at(bytes, LAST),
     }
 }

@@ -1,3 +1,4 @@
-// A connection in 32 lent bytes: its layout, and the connection read. A connection in its lent bytes: made new, and written where it changes.
+// A connection in 32 lent bytes: read, made new, and written where it changes.
 pub mod layout;
+pub mod offsets;
 pub mod write;

@@ -1,10 +1,14 @@
 // A connection in its lent bytes: made new, and written where it changes.
 ghost use mathlib.Core.Path.{_≡_};
 ghost use Rattle.fields_schema.specs.Tree.{guard};
-ghost use Rattle.protocol_connection.specs.Means.{connectionOf};
+ghost use Rattle.protocol_connection.specs.ConnectionOf.{connectionOf};
 ghost use Rattle.c_connection.specs.Layout.{connectionAt, connectedBytes, isLast, heardBytes, hears, closes, becomes};
 use crate::layout::Bytes;
 use crate::layout::word_at;
+use crate::offsets::CLOSED;
+use crate::offsets::LAST;
+use crate::offsets::PROTECTED;
+use crate::offsets::SEEN;
 use access_record_bytes::flag_of;
 use access_record_bytes::put_word;
 use protocol_connection::Connection;
@@ -15,25 +19,25 @@ pub fn connect(bytes: &mut Bytes, number: u64, protected: bool)
 {
     *bytes = [0; 32];
     put_word(bytes, 0, number);
-    bytes[8] = flag_of(protected);
+    bytes[PROTECTED] = flag_of(protected);
 }
 
 // Is it the last accepted sequence already?
 fn is_last(bytes: &Bytes, sequence: u64) -> bool
     ensures { λ r. ⌜ r ≡ isLast (connectionAt (now (bytes .entry)) .last) sequence ⌝ }
 {
-    if bytes[10] == 0 {
+    if bytes[SEEN] == 0 {
         return false;
     }
-    word_at(bytes, 16) == sequence
+    word_at(bytes, LAST) == sequence
 }
 
 // A sequence accepted.
 fn accept(bytes: &mut Bytes, sequence: u64)
     ensures { λ _. ⌜ now (bytes .exit) ≡ heardBytes (now (bytes .entry)) sequence ⌝ }
 {
-    bytes[10] = 1;
-    put_word(bytes, 16, sequence);
+    bytes[SEEN] = 1;
+    put_word(bytes, LAST, sequence);
 }
 
 // The last accepted sequence, where there is one and it is another than before.
@@ -55,10 +59,10 @@ fn close(bytes: &mut Bytes, closed: bool)
     if !closed {
         return;
     }
-    if bytes[9] != 0 {
+    if bytes[CLOSED] != 0 {
         return;
     }
-    bytes[9] = 1;
+    bytes[CLOSED] = 1;
 }
 
 // The connection became c: what changed is written, and no other byte.

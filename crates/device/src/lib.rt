@@ -3,6 +3,7 @@ use access_record::Record;
 pub use device_format::Formatted;
 pub use device_format::format;
 pub use device_response::Response;
+use protocol::status::CONNECTION_TERMINATED;
 use protocol_connection::Connection;
 pub use protocol_connection::connect;
 use request_frame::Framed;
@@ -15,15 +16,15 @@ ghost use lib.ListN.{length};
 ghost use Rattle.access_record.specs.Table.{tableGood};
 ghost use Rattle.access_record.specs.Record.{tableOf};
 ghost use Rattle.store_layout.specs.Store.{Good};
-ghost use Rattle.protocol.specs.State.{lent};
 ghost use Rattle.protocol.specs.Frame.{frameOf};
 ghost use Rattle.protocol.specs.Answer.{serve};
 ghost use Rattle.protocol.specs.Box.{box, answers};
-ghost use Rattle.protocol_connection.specs.Means.{connectionOf};
-ghost use Rattle.device_response.specs.Means.{called, afterwards};
+ghost use Rattle.protocol_connection.specs.ConnectionOf.{connectionOf};
+ghost use Rattle.reply_send.specs.Answers.{before, after};
+ghost use Rattle.device_response.specs.Called.{AnswersOrRefuses};
 
 // The input answered, once no refusal but MORE and that of the readings is left.
-fn serve(
+fn answer_frame(
     store: &mut [u8],
     device: &mut Record,
     readings: &[u8],
@@ -32,7 +33,8 @@ fn serve(
     out: &mut [u8],
 ) -> Response
     requires { ⌜ (4096 ≤ length (now out)) × Good (now store) × (tableGood (tableOf (now device)) ≡ true) ⌝ }
-    ensures { λ r. ⌜ called (connectionOf connection) (now (readings .entry)) r (now (store .exit)) (now (device .exit)) (now (out .exit)) ≡ afterwards (lent (now (store .entry)) (now (device .entry)) (now (readings .entry)) (connectionOf connection)) (now (out .entry)) (serve box (lent (now (store .entry)) (now (device .entry)) (now (readings .entry)) (connectionOf connection)) (length (now (input .entry))) (frameOf (now (input .entry)))) ⌝ }
+    ensures { λ r. ⌜ AnswersOrRefuses (λ s. serve box s (length (now (input .entry))) (frameOf (now (input .entry))))
+        (before store device readings (connectionOf connection)) out r (after store device readings (connectionOf connection)) ⌝ }
 {
     match request_frame::frame_at(input) {
         Framed::More => Response::More,
@@ -40,7 +42,7 @@ fn serve(
             if !log_readings::good(readings) {
                 return Response::ReadingsBad;
             }
-            let r = reply_send::close::close(connection, out, 20);
+            let r = reply_send::close::close(connection, out, CONNECTION_TERMINATED);
             let connection = r.connection;
             Response::Answered {
                 written: r.written,
@@ -54,7 +56,7 @@ fn serve(
             }
             let m = 9 + message;
             let v = m + value;
-            let r = device_message::respond(
+            let r = device_message::answer_message(
                 store,
                 device,
                 readings,
@@ -82,7 +84,8 @@ pub fn answer(
     input: &[u8],
     out: &mut [u8],
 ) -> Response
-    ensures { λ r. ⌜ called (connectionOf connection) (now (readings .entry)) r (now (store .exit)) (now (device .exit)) (now (out .exit)) ≡ afterwards (lent (now (store .entry)) (now (device .entry)) (now (readings .entry)) (connectionOf connection)) (now (out .entry)) (answers (lent (now (store .entry)) (now (device .entry)) (now (readings .entry)) (connectionOf connection)) (length (now (out .entry))) (now (input .entry))) ⌝ }
+    ensures { λ r. ⌜ AnswersOrRefuses (λ s. answers s (length (now (out .entry))) (now (input .entry)))
+        (before store device readings (connectionOf connection)) out r (after store device readings (connectionOf connection)) ⌝ }
 {
     if out.len() < 4096 {
         return Response::OutShort;
@@ -97,5 +100,5 @@ pub fn answer(
     if closed {
         return Response::Closed;
     }
-    serve(store, device, readings, connection, input, out)
+    answer_frame(store, device, readings, connection, input, out)
 }

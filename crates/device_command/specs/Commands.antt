@@ -1,11 +1,25 @@
--- What the struct of a request that decodes means.
+-- What the structs of a request that decodes mean.
+use mathlib.Core.Bool.{cond}
+use mathlib.Core.Path.{_≡_}
 use mathlib.Core.List.{List}
+use mathlib.Core.Option.{none}
 use Prim.Native.Nat.{ℕ}
 use Rattle.fields_schema.specs.Tree.{guard}
+use Rattle.fields_lookup.specs.Views.{numView}
 use Rattle.protocol.specs.Command as c
+use Rattle.base_definitions.specs.Options.{orElse}
+use Rattle.protocol.specs.Operation.{askedBy}
 use Rattle.request_command.specs.declared.Request.{Request}
 use Rattle.request_parts.specs.Views.{headerView}
 use Rattle.request_command.specs.Views.{bodyView}
+use Rattle.device_command.specs.declared.Heading.{Heading}
 
 abbrev pub commandIn : List ℕ → Request → c.Command
 commandIn s q = record { header = guard (q .headed) (headerView (q .header)); body = bodyView s (q .body) }
+
+-- what the code has of a header: each number where the header is there and has it, and what the messageType asks for
+pub record HeadingOf (q : Request) (h : Heading) : Type 0 where
+  pub version : h .version ≡ orElse 0 (numView (q .header .cluster))
+  pub id : numView (h .id) ≡ cond (q .headed) (numView (q .header .connection)) none
+  pub sequence : numView (h .sequence) ≡ cond (q .headed) (numView (q .header .sequence)) none
+  pub asked : h .asked ≡ askedBy (cond (q .headed) (numView (q .header .kind)) none)

@@ -1,20 +1,24 @@
 // Steps 3 to 10: what comes of a command that was signed right.
 use access_record::Record;
 use fields_lookup::parts::Num;
+use judge_header::header::header_fault;
+use judge_header::message_type::asked_by;
+use judge_header::message_type::reply_type;
+use perform::Job;
 use protocol::Asked;
-use protocol::Operation;
+use protocol::message_type::INVALID_MESSAGE_TYPE;
+use protocol::status::INVALID_REQUEST;
 use protocol_connection::Connection;
+use reply_command::ReplyTo;
 use reply_send::close::Replied;
-use reply_send::send::Address;
 use request_command::Body;
 use request_command::Request;
 use request_command::numbers::number_or;
 ghost use mathlib.Core.Path.{_≡_};
-ghost use mathlib.Core.Bool.{true};
-ghost use mathlib.Core.Option.{Option, none};
+ghost use mathlib.Core.Bool.{true, cond};
+ghost use mathlib.Core.Option.{Option, none, some};
 ghost use Prim.Native.Nat.{ℕ, _≤_};
 ghost use lib.ListN.{length};
-ghost use Rattle.fields_wire.specs.Reader.{choose};
 ghost use Rattle.store_layout.specs.Store.{Good};
 ghost use Rattle.log_readings.specs.Lent.{readingsGood};
 ghost use Rattle.access_record.specs.Table.{aclOf, placeOf, tableGood};
@@ -22,83 +26,111 @@ ghost use Rattle.access_record.specs.declared.Found.the-variants.{At};
 ghost use Rattle.access_record.specs.Record.{tableOf, Placed};
 ghost use Rattle.fields_lookup.specs.Views.{numView};
 ghost use Rattle.protocol.specs.State as state;
-ghost use Rattle.protocol.specs.State.{lent};
+ghost use Rattle.protocol.specs.State.{table};
 ghost use Rattle.protocol.specs.Reading.{decoded, decodes};
-ghost use Rattle.protocol.specs.Judge.{judge};
 ghost use Rattle.protocol.specs.Operation.{askedBy};
 ghost use Rattle.protocol.specs.Answer.{respond};
-ghost use Rattle.protocol.specs.Box.{box, told};
-ghost use Rattle.judge_header.specs.Steps.{served, rest};
+ghost use Rattle.protocol.specs.Box.{box, judged};
+ghost use Rattle.judge_header.specs.Rest.{rest};
 ghost use Rattle.request_command.specs.Views.{BodyLies, bodyView};
-ghost use Rattle.protocol_connection.specs.Means.{connectionOf};
-ghost use Rattle.device_command.specs.Commands.{commandIn};
-ghost use Rattle.reply_send.specs.Sent.{Sent, replied};
+ghost use Rattle.protocol_connection.specs.ConnectionOf.{connectionOf};
+ghost use Rattle.device_command.specs.Commands.{commandIn, HeadingOf};
+ghost use Rattle.reply_send.specs.Sent.{replied};
+ghost use Rattle.reply_send.specs.Answers.{Answers, before, after};
 
-// Steps 8 to 10.
-fn serve(
-    o: Operation,
-    store: &mut [u8],
-    device: &mut Record,
-    readings: &[u8],
-    place: usize,
-    protected: bool,
-    s: &[u8],
-    b: Body,
-    value: &[u8],
-    out: &mut [u8],
-    by: &[u8],
-    a: Address,
-) -> usize
-    requires { ⌜ (4096 ≤ length (now out)) × (length (now by) ≤ 64) × Good (now store) × Placed (now device) place × BodyLies (now s) b × (readingsGood (now readings) ≡ true) ⌝ }
-    ensures { λ r. ⌜ ((c : state.Connection) → c .protected ≡ protected → Sent (replied a (now (by .entry)) (served (lent (now (store .entry)) (now (device .entry)) (now (readings .entry)) c) (aclOf (tableOf (now (device .entry))) place) o (bodyView (now (s .entry)) b) (now (value .entry)))) r (now (out .entry)) (now (out .exit)) (lent (now (store .exit)) (now (device .exit)) (now (readings .entry)) c)) ⌝ }
-{
-    let refusal = judge_admission::admit(o, device, place, protected, s, b, value.len());
-    if refusal != 0 {
-        return reply_send::send::status(out, by, a, refusal);
-    }
-    perform::perform(o, store, device, readings, s, b, value, out, by, a)
+// Who sent a command: the identity, the place of its ACL in the table, and the connection that the command came on.
+pub struct Sender {
+    pub identity: u64,
+    pub acl: usize,
+    pub connection: Connection,
+}
+
+// A command that decodes, and who sent it.
+struct Received {
+    sender: Sender,
+    request: Request,
+}
+
+// What the header of a request says: its clusterVersion, its connectionID and its sequence, and what its messageType asks for.
+struct Heading {
+    version: u64,
+    id: Num,
+    sequence: Num,
+    asked: Asked,
+}
+
+// A request that passed steps 4 to 6: who sent it, what it asks for, with what body, and to whom the reply goes.
+struct Accepted {
+    sender: Sender,
+    asked: Asked,
+    body: Body,
+    reply_to: ReplyTo,
 }
 
 // Steps 7 to 10.
-fn obey(
-    asked: Asked,
+fn admit_and_perform(
     store: &mut [u8],
     device: &mut Record,
     readings: &[u8],
-    place: usize,
-    protected: bool,
-    s: &[u8],
-    b: Body,
+    accepted: Accepted,
+    command: &[u8],
     value: &[u8],
     out: &mut [u8],
-    by: &[u8],
-    a: Address,
+    signing_key: &[u8],
 ) -> usize
-    requires { ⌜ (4096 ≤ length (now out)) × (length (now by) ≤ 64) × Good (now store) × Placed (now device) place × BodyLies (now s) b × (readingsGood (now readings) ≡ true) ⌝ }
-    ensures { λ r. ⌜ ((c : state.Connection) (type : Option ℕ) → c .protected ≡ protected → asked ≡ askedBy type → Sent (replied a (now (by .entry)) (rest (lent (now (store .entry)) (now (device .entry)) (now (readings .entry)) c) (aclOf (tableOf (now (device .entry))) place) type (bodyView (now (s .entry)) b) (now (value .entry)))) r (now (out .entry)) (now (out .exit)) (lent (now (store .exit)) (now (device .exit)) (now (readings .entry)) c)) ⌝ }
+    requires { ⌜ (4096 ≤ length (now out)) × (length (now «signing_key») ≤ 64) × Good (now store) × Placed (now device) (accepted .sender .acl)
+        × BodyLies (now command) (accepted .body) × (readingsGood (now readings) ≡ true) ⌝ }
+    ensures { λ r. ⌜ ((c : state.Connection) (type : Option ℕ) → c .protected ≡ accepted .sender .connection .protected
+        → accepted .asked ≡ askedBy type → let body = bodyView (now (command .entry)) (accepted .body) in
+        Answers (λ s. replied (accepted .«reply_to») (now («signing_key» .entry))
+        (rest s (aclOf (table s) (accepted .sender .acl)) type body (now (value .entry))))
+        (before store device readings c) out r (after store device readings c)) ⌝ }
 {
+    let asked = accepted.asked;
     match asked {
-        Asked::Request(o) => serve(
-            o,
-            store,
-            device,
-            readings,
-            place,
-            protected,
-            s,
-            b,
-            value,
+        Asked::Request(operation) => {
+            let refusal = judge_admission::admit(
+                operation,
+                device,
+                accepted.sender.acl,
+                accepted.sender.connection.protected,
+                command,
+                accepted.body,
+                value.len(),
+            );
+            if refusal != 0 {
+                return reply_send::send::status(out, signing_key, accepted.reply_to, refusal);
+            }
+            let body = accepted.body;
+            let reply_to = accepted.reply_to;
+            let job = Job {
+                operation,
+                body,
+                reply_to,
+            };
+            perform::perform(
+                store,
+                device,
+                readings,
+                job,
+                command,
+                value,
+                out,
+                signing_key,
+            )
+        }
+        Asked::NotBuilt => reply_send::send::status(
             out,
-            by,
-            a,
+            signing_key,
+            accepted.reply_to,
+            INVALID_REQUEST,
         ),
-        Asked::NotBuilt => reply_send::send::status(out, by, a, 16),
     }
 }
 
 // A number of a header, if there is a header.
 fn in_header(headed: bool, n: Num) -> Num
-    ensures { λ r. ⌜ numView r ≡ choose headed (numView n) none ⌝ }
+    ensures { λ r. ⌜ numView r ≡ cond headed (numView n) none ⌝ }
 {
     if headed {
         return n;
@@ -109,113 +141,120 @@ fn in_header(headed: bool, n: Num) -> Num
     }
 }
 
+// What the header of a request says; one that is absent has none of it, and asks for nothing.
+fn heading_of(request: Request) -> Heading
+    ensures { λ r. ⌜ HeadingOf request r ⌝ }
+{
+    let kind = in_header(request.headed, request.header.kind);
+    Heading {
+        version: number_or(request.header.cluster, 0),
+        id: in_header(request.headed, request.header.connection),
+        sequence: in_header(request.headed, request.header.sequence),
+        asked: asked_by(kind.has, kind.value),
+    }
+}
+
 // Steps 4 to 10.
-fn judge(
+fn answer_request(
     store: &mut [u8],
     device: &mut Record,
     readings: &[u8],
-    place: usize,
-    connection: Connection,
-    identity: u64,
-    s: &[u8],
-    q: Request,
+    received: Received,
+    command: &[u8],
     value: &[u8],
     out: &mut [u8],
-    by: &[u8],
+    signing_key: &[u8],
 ) -> Replied
-    requires { ⌜ (4096 ≤ length (now out)) × (length (now by) ≤ 64) × Good (now store) × Placed (now device) place × BodyLies (now s) (q .body) × (readingsGood (now readings) ≡ true) ⌝ }
-    ensures { λ r. ⌜ Sent (told (lent (now (store .entry)) (now (device .entry)) (now (readings .entry)) (connectionOf connection)) identity (now (by .entry)) (commandIn (now (s .entry)) q) (judge (lent (now (store .entry)) (now (device .entry)) (now (readings .entry)) (connectionOf connection)) (aclOf (tableOf (now (device .entry))) place) (commandIn (now (s .entry)) q) (now (value .entry)))) (r .written) (now (out .entry)) (now (out .exit)) (lent (now (store .exit)) (now (device .exit)) (now (readings .entry)) (connectionOf (r .connection))) ⌝ }
+    requires { ⌜ (4096 ≤ length (now out)) × (length (now «signing_key») ≤ 64) × Good (now store) × Placed (now device) (received .sender .acl)
+        × BodyLies (now command) (received .request .body) × (readingsGood (now readings) ≡ true) ⌝ }
+    ensures { λ r. ⌜ (let sender = received .sender in
+        let asked = commandIn (now (command .entry)) (received .request) in
+        Answers (λ s. judged s (sender .identity) (now («signing_key» .entry)) asked (now (value .entry)) (some (aclOf (table s) (sender .acl))))
+        (before store device readings (connectionOf (sender .connection))) out (r .written) (after store device readings (connectionOf (r .connection)))) ⌝ }
 {
-    let version = number_or(q.header.cluster, 0);
-    let id = in_header(q.headed, q.header.connection);
-    let sequence = in_header(q.headed, q.header.sequence);
-    let kind = in_header(q.headed, q.header.kind);
-    let asked = judge_header::message_type::asked_by(kind.has, kind.value);
-    let a = Address {
-        identity,
+    let sender = received.sender;
+    let connection = sender.connection;
+    let heading = heading_of(received.request);
+    let sequence = heading.sequence;
+    let asked = heading.asked;
+    let reply_to = ReplyTo {
+        identity: sender.identity,
         connection: connection.number,
         sequenced: sequence.has,
         sequence: sequence.value,
-        kind: judge_header::message_type::reply_type(asked),
+        kind: reply_type(asked),
     };
-    let code = judge_header::header::header_fault(
-        device,
-        version,
-        id.has,
-        id.value,
-        sequence.has,
-        sequence.value,
-        connection.number,
-        connection.seen,
-        connection.last,
-    );
+    let code = header_fault(device, heading.version, heading.id, sequence, connection);
     if code != 0 {
         return Replied {
-            written: reply_send::send::status(out, by, a, code),
+            written: reply_send::send::status(out, signing_key, reply_to, code),
             connection,
         };
     }
+    let body = received.request.body;
+    let accepted = Accepted {
+        sender,
+        asked,
+        body,
+        reply_to,
+    };
     Replied {
-        written: obey(
-            asked,
+        written: admit_and_perform(
             store,
             device,
             readings,
-            place,
-            connection.protected,
-            s,
-            q.body,
+            accepted,
+            command,
             value,
             out,
-            by,
-            a,
+            signing_key,
         ),
         connection: protocol_connection::accept(connection, sequence.value),
     }
 }
 
-// Steps 3 to 10: the command in the commandBytes s, of the identity at a place of the table.
-pub fn decide(
+// Steps 3 to 10: the command in the commandBytes, of a sender in the table.
+pub fn answer_command(
     store: &mut [u8],
     device: &mut Record,
     readings: &[u8],
-    place: usize,
-    connection: Connection,
-    identity: u64,
-    s: &[u8],
+    sender: Sender,
+    command: &[u8],
     value: &[u8],
     out: &mut [u8],
-    by: &[u8],
+    signing_key: &[u8],
 ) -> Replied
-    requires { ⌜ (4096 ≤ length (now out)) × (length (now by) ≤ 64) × Good (now store) × (tableGood (tableOf (now device)) ≡ true) × (placeOf (tableOf (now device)) identity ≡ At place) × (readingsGood (now readings) ≡ true) ⌝ }
-    ensures { λ r. ⌜ Sent (respond box (lent (now (store .entry)) (now (device .entry)) (now (readings .entry)) (connectionOf connection)) (now (value .entry)) (decoded identity (now (by .entry)) (decodes (now (s .entry))))) (r .written) (now (out .entry)) (now (out .exit)) (lent (now (store .exit)) (now (device .exit)) (now (readings .entry)) (connectionOf (r .connection))) ⌝ }
+    requires { ⌜ (4096 ≤ length (now out)) × (length (now «signing_key») ≤ 64) × Good (now store) × (tableGood (tableOf (now device)) ≡ true)
+        × (placeOf (tableOf (now device)) (sender .identity) ≡ At (sender .acl)) × (readingsGood (now readings) ≡ true) ⌝ }
+    ensures { λ r. ⌜ (let reading = decoded (sender .identity) (now («signing_key» .entry)) (decodes (now (command .entry))) in
+        Answers (λ s. respond box s (now (value .entry)) reading)
+        (before store device readings (connectionOf (sender .connection))) out (r .written) (after store device readings (connectionOf (r .connection)))) ⌝ }
 {
-    let r = request_command::read_request(s);
-    let ok = r.ok;
+    let request = request_command::read_request(command);
+    let ok = request.ok;
     if ok {
-        return judge(
+        let received = Received { sender, request };
+        return answer_request(
             store,
             device,
             readings,
-            place,
-            connection,
-            identity,
-            s,
-            r,
+            received,
+            command,
             value,
             out,
-            by,
+            signing_key,
         );
     }
-    let a = Address {
-        identity,
+    let connection = sender.connection;
+    let reply_to = ReplyTo {
+        identity: sender.identity,
         connection: connection.number,
         sequenced: false,
         sequence: 0,
-        kind: 18446744073709551615,
+        kind: INVALID_MESSAGE_TYPE,
     };
     Replied {
-        written: reply_send::send::status(out, by, a, 16),
+        written: reply_send::send::status(out, signing_key, reply_to, INVALID_REQUEST),
         connection,
     }
 }

@@ -1,7 +1,7 @@
 // Format: the device record and the store of a new box.
 use access_record::Record;
 ghost use Rattle.protocol.specs.Format.{Told};
-ghost use Rattle.device_format.specs.Means.{formatNumber};
+ghost use Rattle.device_format.specs.FormatNumber.{formatNumber};
 
 // What Format answers.
 pub enum Formatted {

@@ -1,6 +1,9 @@
 // Steps 1 and 2: a whole message read, its sender looked up and its hmac verified; the command is left to the steps after them.
 use access_record::Found;
 use access_record::Record;
+use device_command::Sender;
+use protocol::status::CONNECTION_TERMINATED;
+use protocol::status::HMAC_FAILURE;
 use protocol_connection::Connection;
 use reply_send::close::Replied;
 use reply_send::close::close;
@@ -15,50 +18,49 @@ ghost use Rattle.access_record.specs.Record.{tableOf, Placed};
 ghost use Rattle.signature_hmac.specs.Hmac.{hmac};
 ghost use Rattle.store_layout.specs.Store.{Good};
 ghost use Rattle.log_readings.specs.Lent.{readingsGood};
-ghost use Rattle.protocol.specs.State.{lent};
+ghost use Rattle.protocol.specs.State.{table};
 ghost use Rattle.protocol.specs.Reading.{verified};
 ghost use Rattle.protocol.specs.Answer.{reading, respond};
-ghost use Rattle.protocol.specs.Box.{box, close};
-ghost use Rattle.protocol_connection.specs.Means.{connectionOf};
-ghost use Rattle.reply_send.specs.Sent.{Sent};
+ghost use Rattle.protocol.specs.Box.{box};
+ghost use Rattle.protocol_connection.specs.ConnectionOf.{connectionOf};
+ghost use Rattle.reply_send.specs.Answers.{Answers, before, after};
 
 // The key at a place, copied: SECURITY overwrites the record before its reply is signed.
-fn copy_key(device: &Record, place: usize, key: &mut [u8]) -> usize
-    requires { ⌜ Placed (now device) place × (64 ≤ length (now key)) ⌝ }
-    ensures { λ r. ⌜ (take r (now (key .exit)) ≡ aclOf (tableOf (now (device .entry))) place .key) × (r ≤ 64) ⌝ }
+fn copy_key(device: &Record, acl: usize, key: &mut [u8]) -> usize
+    requires { ⌜ Placed (now device) acl × (64 ≤ length (now key)) ⌝ }
+    ensures { λ r. ⌜ (take r (now (key .exit)) ≡ aclOf (tableOf (now (device .entry))) acl .key) × (r ≤ 64) ⌝ }
 {
-    fields_write_bytes::copy(key, access_identity::key_of(device, place))
+    fields_write_bytes::copy(key, access_identity::key_of(device, acl))
 }
 
 // Step 2 for an identity of the table, and what follows.
-fn verify(
+fn verify_sender(
     store: &mut [u8],
     device: &mut Record,
     readings: &[u8],
-    place: usize,
-    connection: Connection,
-    identity: u64,
-    sent: &[u8],
-    s: &[u8],
+    sender: Sender,
+    digest: &[u8],
+    command: &[u8],
     value: &[u8],
     out: &mut [u8],
 ) -> Replied
-    requires { ⌜ (4096 ≤ length (now out)) × Good (now store) × (tableGood (tableOf (now device)) ≡ true) × (placeOf (tableOf (now device)) identity ≡ At place) × (length (now s) ≤ 8192) × (readingsGood (now readings) ≡ true) ⌝ }
-    ensures { λ r. ⌜ Sent (respond box (lent (now (store .entry)) (now (device .entry)) (now (readings .entry)) (connectionOf connection)) (now (value .entry)) (verified hmac (box .keyOf (lent (now (store .entry)) (now (device .entry)) (now (readings .entry)) (connectionOf connection))) identity (now (sent .entry)) (now (s .entry)) (some (aclOf (tableOf (now (device .entry))) place .key)))) (r .written) (now (out .entry)) (now (out .exit)) (lent (now (store .exit)) (now (device .exit)) (now (readings .entry)) (connectionOf (r .connection))) ⌝ }
+    requires { ⌜ (4096 ≤ length (now out)) × Good (now store) × (tableGood (tableOf (now device)) ≡ true)
+        × (placeOf (tableOf (now device)) (sender .identity) ≡ At (sender .acl)) × (length (now command) ≤ 8192) × (readingsGood (now readings) ≡ true) ⌝ }
+    ensures { λ r. ⌜ Answers (λ s. respond box s (now (value .entry))
+        (verified hmac (box .keyOf s) (sender .identity) (now (digest .entry)) (now (command .entry)) (some (aclOf (table s) (sender .acl) .key))))
+        (before store device readings (connectionOf (sender .connection))) out (r .written) (after store device readings (connectionOf (r .connection))) ⌝ }
 {
-    if !signature_hmac::verify(access_identity::key_of(device, place), s, sent) {
-        return close(connection, out, 2);
+    if !signature_hmac::verify(access_identity::key_of(device, sender.acl), command, digest) {
+        return close(sender.connection, out, HMAC_FAILURE);
     }
     let mut key = [0u8; 64];
-    let n = copy_key(device, place, &mut key);
-    device_command::decide(
+    let n = copy_key(device, sender.acl, &mut key);
+    device_command::answer_command(
         store,
         device,
         readings,
-        place,
-        connection,
-        identity,
-        s,
+        sender,
+        command,
         value,
         out,
         &key[..n],
@@ -66,7 +68,7 @@ fn verify(
 }
 
 // Steps 1 to 10: the reply to a whole message.
-pub fn respond(
+pub fn answer_message(
     store: &mut [u8],
     device: &mut Record,
     readings: &[u8],
@@ -75,13 +77,15 @@ pub fn respond(
     value: &[u8],
     out: &mut [u8],
 ) -> Replied
-    requires { ⌜ (4096 ≤ length (now out)) × Good (now store) × (tableGood (tableOf (now device)) ≡ true) × (length (now message) ≤ 8192) × (readingsGood (now readings) ≡ true) ⌝ }
-    ensures { λ r. ⌜ Sent (respond box (lent (now (store .entry)) (now (device .entry)) (now (readings .entry)) (connectionOf connection)) (now (value .entry)) (reading box (lent (now (store .entry)) (now (device .entry)) (now (readings .entry)) (connectionOf connection)) (now (message .entry)))) (r .written) (now (out .entry)) (now (out .exit)) (lent (now (store .exit)) (now (device .exit)) (now (readings .entry)) (connectionOf (r .connection))) ⌝ }
+    requires { ⌜ (4096 ≤ length (now out)) × Good (now store) × (tableGood (tableOf (now device)) ≡ true) × (length (now message) ≤ 8192)
+        × (readingsGood (now readings) ≡ true) ⌝ }
+    ensures { λ r. ⌜ Answers (λ s. respond box s (now (value .entry)) (reading box s (now (message .entry))))
+        (before store device readings (connectionOf connection)) out (r .written) (after store device readings (connectionOf (r .connection))) ⌝ }
 {
     let m = request_message::read_message(message);
     let ok = m.ok;
     if !ok {
-        return close(connection, out, 20);
+        return close(connection, out, CONNECTION_TERMINATED);
     }
     let identity = m.identity;
     let hmac = m.hmac.start;
@@ -89,18 +93,23 @@ pub fn respond(
     let command = m.command.start;
     let command_end = command + m.command.len;
     match access_identity::find_identity(device, identity) {
-        Found::At(place) => verify(
-            store,
-            device,
-            readings,
-            place,
-            connection,
-            identity,
-            &message[hmac..hmac_end],
-            &message[command..command_end],
-            value,
-            out,
-        ),
-        Found::Nobody => close(connection, out, 2),
+        Found::At(acl) => {
+            let sender = Sender {
+                identity,
+                acl,
+                connection,
+            };
+            verify_sender(
+                store,
+                device,
+                readings,
+                sender,
+                &message[hmac..hmac_end],
+                &message[command..command_end],
+                value,
+                out,
+            )
+        }
+        Found::Nobody => close(connection, out, HMAC_FAILURE),
     }
 }

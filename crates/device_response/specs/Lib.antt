@@ -1,2 +1,2 @@
-pub mod Means
-pub mod Laws
+pub mod Called
+pub mod CalledLaws

@@ -5,16 +5,15 @@ use native.Mathlib.Nat.{add-sub-cancel-left}
 use mathlib.Core.Path.{_≡_, refl, sym, ap, _∙_, subst}
 use mathlib.Core.List.{List, [], _∷_, _++_}
 use mathlib.Core.Option.{Option, none, some}
-use mathlib.Core.Bool.{Bool, true, false}
+use mathlib.Core.Bool.{Bool, true, false, cond}
 use lib.ListN.{length, take, drop, length-take}
-use Rattle.fields_wire.specs.Reader.{choose}
 use Rattle.fields_wire.specs.Wire.{Value, Field, field, readField, fieldsOf}
 use Rattle.fields_wire_reader.specs.FieldAnswer.{meansFound, endsFound, nextIn}
 use Rattle.fields_wire_reader.specs.declared.Found.{Found}
 use Rattle.fields_schema.specs.Rules.{ruleOf, strictOf}
 use Rattle.fields_schema.specs.Tree.{mapO, thenO, isSome, Content, cInt, cRaw, cFix, cMsg, Item, item, decode, find, add, byRule, step, items, itemsO, level}
 use Rattle.fields_schema.specs.Tree.{Tree, sub, openOne, openAll, listed}
-use Rattle.fields_schema.specs.Depth.{listed-opens}
+use Rattle.fields_schema.specs.DepthLaws.{listed-opens}
 use Rattle.fields_value.specs.Taken.{meansTaken, insideTaken}
 use Rattle.fields_rule.specs.Judged.{Marks, Takes, Judges}
 use Rattle.fields_decode.specs.Nested.{opensTaken}
@@ -90,7 +89,7 @@ abbrev ShutO : Option (List Item) → Type 0
 ShutO none = Unit {0}
 ShutO (some is) = Shut is
 
-shut-choose : (t : Bool) (o : Option (List Item)) → ShutO o → ShutO (choose t none o)
+shut-choose : (t : Bool) (o : Option (List Item)) → ShutO o → ShutO (cond t none o)
 shut-choose true o h = tt
 shut-choose false o h = h
 

@@ -4,12 +4,11 @@ use native.Mathlib.Omega.{arith}
 use mathlib.Core.Path.{_≡_, refl, sym, ap, _∙_, subst}
 use mathlib.Core.List.{List, [], _∷_, _++_}
 use mathlib.Core.Option.{Option, none, some}
-use mathlib.Core.Bool.{Bool, true, false}
+use mathlib.Core.Bool.{Bool, true, false, cond}
 use lib.ListN.{length, take, drop, getD, set, length-set, replicate}
 use lib.Seq.{getD-set-same, getD-set-other}
 use lib.Dec.{eqb}
 use borrow.Author.Tests.{eqb-true, eqb-false}
-use Rattle.fields_wire.specs.Reader.{choose}
 use Rattle.fields_wire.specs.Wire.{readField}
 use Rattle.fields_wire_reader.specs.FieldAnswer.{meansFound, endsFound, nextIn}
 use Rattle.fields_wire_reader.specs.declared.Found.{Found}
@@ -26,7 +25,7 @@ use Rattle.fields_rule.specs.declared.Judged.{Judged}
 use Rattle.fields_rule.specs.declared.Judged.the-variants.{Refuse, Skip, Take}
 use Rattle.fields_decode.specs.declared.slots.Place.{Place}
 use Rattle.fields_decode.specs.declared.slots.Slots.{Slots}
-use Rattle.fields_rule.proofs.Bits.{no-bit}
+use Rattle.base_definitions.specs.BitsLaws.{no-bit}
 use Rattle.fields_decode.proofs.Walking.{Walk, walk-start, walk-end, walk-none, walk-refuse, walk-on}
 
 pub no-marks : (k : Kind) → Marks k 0 []
@@ -36,15 +35,15 @@ pub empty-holds : (k : Kind) (s : List ℕ) → Holds k s (record { ok = true; h
 empty-holds k s = record { ok = refl; sized = record { value = refl; len = refl }; marks = no-marks k; shows = λ n c w e. nothing-some e }
 
 -- one item more -------------------------------------------------------------------------
-last-snoc : (m n : ℕ) (c : Content) (is : List Item) → findLast m (is ++ (item n c ∷ [])) ≡ choose (eqb m n) (some c) (findLast m is)
+last-snoc : (m n : ℕ) (c : Content) (is : List Item) → findLast m (is ++ (item n c ∷ [])) ≡ cond (eqb m n) (some c) (findLast m is)
 last-snoc m n c [] = go (eqb m n)
   where
-    go : (b : Bool) → later none (guard b c) ≡ choose b (some c) none
+    go : (b : Bool) → later none (guard b c) ≡ cond b (some c) none
     go true = refl
     go false = refl
 last-snoc m n c (item j d ∷ is) = ap (λ o. later o (guard (eqb m j) d)) (last-snoc m n c is) ∙ go (eqb m n)
   where
-    go : (b : Bool) → later (choose b (some c) (findLast m is)) (guard (eqb m j) d) ≡ choose b (some c) (later (findLast m is) (guard (eqb m j) d))
+    go : (b : Bool) → later (cond b (some c) (findLast m is)) (guard (eqb m j) d) ≡ cond b (some c) (later (findLast m is) (guard (eqb m j) d))
     go true = refl
     go false = refl
 
@@ -58,12 +57,12 @@ module _ (k : Kind) (s : List ℕ) (t : Slots) (is : List Item) (f : Found) (n s
           → Shows s (getD (u .value) m 0) (getD (u .len) m 0) d
       at m d g e true q =
           let r : m ≡ n = eqb-true m n q in
-          let v : findLast m (is ++ (item n c ∷ [])) ≡ some c = last-snoc m n c is ∙ ap (λ b. choose b (some c) (findLast m is)) q in
+          let v : findLast m (is ++ (item n c ∷ [])) ≡ some c = last-snoc m n c is ∙ ap (λ b. cond b (some c) (findLast m is)) q in
           let i : c ≡ d = cc (v, e) in
           subst (λ (d : Content). Shows s (getD (u .value) m 0) (getD (u .len) m 0) d) i (subst (λ (j : ℕ). Shows s (getD (u .value) j 0) (getD (u .len) j 0) c) (sym r) x)
       at m d g e false q =
           let r = eqb-false m n q in
-          let v : findLast m is ≡ some d = sym (last-snoc m n c is ∙ ap (λ b. choose b (some c) (findLast m is)) q) ∙ e in
+          let v : findLast m is ≡ some d = sym (last-snoc m n c is ∙ ap (λ b. cond b (some c) (findLast m is)) q) ∙ e in
           rw (a m r, b m r) (h .shows m d g v)
 
 abbrev pub slotsOf : ℕ → List ℕ → List ℕ → Slots

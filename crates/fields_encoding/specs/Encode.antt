@@ -3,9 +3,8 @@ use Prim.Native.Nat.{ℕ, zero, suc, _+_, _*_, _/_, _%_, _^_, _≤_, _<_}
 use mathlib.Core.Path.{_≡_}
 use mathlib.Core.List.{List, [], _∷_, _++_}
 use mathlib.Core.Option.{Option, none, some}
-use mathlib.Core.Bool.{Bool}
+use mathlib.Core.Bool.{Bool, cond}
 use lib.ListN.{length}
-use Rattle.fields_wire.specs.Reader.{choose}
 use Rattle.fields_wire.specs.Wire.{Value, vint, vlen, v32}
 use Rattle.fields_wire.specs.Varint.{varintBytes}
 use Rattle.fields_schema.specs.Rules.{ruleOf}
@@ -96,7 +95,7 @@ pub record FieldNumber (n : ℕ) : Type 0 where
 abbrev pub says : Rule → Bool → Value → Option Content
 says Unlisted before v = none
 says Refused before v = none
-says (Once f) before v = choose before none (decode f v)
+says (Once f) before v = cond before none (decode f v)
 says (Single f) before v = decode f v
 says (Repeated f) before v = decode f v
 

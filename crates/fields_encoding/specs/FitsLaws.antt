@@ -4,26 +4,27 @@ use native.Mathlib.Omega.{arith}
 use mathlib.Core.Path.{_≡_, refl}
 use mathlib.Core.List.{List, [], _∷_}
 use mathlib.Core.Option.{Option, none, some}
-use mathlib.Core.Bool.{Bool, true, false}
+use mathlib.Core.Bool.{Bool, true, false, cond}
 use lib.ListN.{length}
 use lib.Dec.{ltb, leb, eqb}
 use borrow.Author.Tests.{ltb-true, leb-true}
-use Rattle.fields_wire.specs.Reader.{choose}
 use Rattle.fields_wire.specs.Wire.{Value, vint, vlen, v32}
 use Rattle.fields_schema.specs.Rules.{ruleOf}
 use Rattle.fields_schema.specs.Tree.{among, Content, cInt, cRaw, cFix, cMsg, Tree, int, raw, fix, sub}
-use Rattle.fields_encoding.specs.Basics.{never}
+use Rattle.fields_encoding.specs.BasicLaws.{never}
 use Rattle.fields_encoding.specs.Encode.{encode, intO, intIf, rawIf, fixO, each, subO, eachSub, FieldNumber, says, FitsAfter, ends, ints, raws, fixs, subs}
-use Rattle.fields_encoding.specs.Cost.{cost, AtMost, CostMost, encode-cost}
+use Rattle.fields_encoding.specs.Cost.{cost, AtMost, CostMost}
+use Rattle.fields_encoding.specs.CostLaws.{encode-cost}
 use Rattle.fields_schema.specs.declared.Kind.{Kind}
 use Rattle.fields_schema.specs.declared.Rule.{Rule}
 use Rattle.fields_schema.specs.declared.Rule.the-variants.{Unlisted, Refused, Once, Single, Repeated}
+use Rattle.fields_encoding.specs.AllFit.{AllFit}
 
 -- a field number, by a computed test
-pub number : {n : ℕ} → choose (leb 1 n) (ltb n (2 ^ 29)) false ≡ true → FieldNumber n
+pub number : {n : ℕ} → cond (leb 1 n) (ltb n (2 ^ 29)) false ≡ true → FieldNumber n
 number {n} e = go (leb 1 n) refl e
   where
-    go : (t : Bool) → leb 1 n ≡ t → choose t (ltb n (2 ^ 29)) false ≡ true → FieldNumber n
+    go : (t : Bool) → leb 1 n ≡ t → cond t (ltb n (2 ^ 29)) false ≡ true → FieldNumber n
     go true q h = record { above = omega (arith, leb-true 1 n q); below = omega (arith, ltb-true n (2 ^ 29) h) }
     go false q h = never (cc)
 
@@ -43,21 +44,21 @@ says-fewer (Repeated g) s s' v c f h = h
 fewer-cons : {ns ms : List ℕ} (n : ℕ) → Fewer ns ms → Fewer (n ∷ ns) (n ∷ ms)
 fewer-cons {ns} {ms} n f = record { free = λ m. go m (eqb m n) }
   where
-    go : (m : ℕ) (t : Bool) → choose t true (among m ns) ≡ false → choose t true (among m ms) ≡ false
+    go : (m : ℕ) (t : Bool) → cond t true (among m ns) ≡ false → cond t true (among m ms) ≡ false
     go m true h = h
     go m false h = f .free m h
 
 fewer-one : (n : ℕ) (ns : List ℕ) → Fewer (n ∷ ns) ns
 fewer-one n ns = record { free = λ m. go m (eqb m n) }
   where
-    go : (m : ℕ) (t : Bool) → choose t true (among m ns) ≡ false → among m ns ≡ false
+    go : (m : ℕ) (t : Bool) → cond t true (among m ns) ≡ false → among m ns ≡ false
     go m true h = never (cc)
     go m false h = h
 
 fewer-twice : (n : ℕ) (ns : List ℕ) → Fewer (n ∷ ns) (n ∷ n ∷ ns)
 fewer-twice n ns = record { free = λ m. go m (eqb m n) }
   where
-    go : (m : ℕ) (t : Bool) → choose t true (among m ns) ≡ false → choose t true (choose t true (among m ns)) ≡ false
+    go : (m : ℕ) (t : Bool) → cond t true (among m ns) ≡ false → cond t true (cond t true (among m ns)) ≡ false
     go m true h = h
     go m false h = h
 
@@ -128,11 +129,6 @@ fit-each m [] h l a g r = fit-skip r
 fit-each {n = n} {ns = ns} m (b ∷ bs) h l a g r =
     let q : length b < 2 ^ 64 = omega (arith, a .0) in
     raws h q (g (among n ns) b) (fit-each m bs h l (a .1) g (fits-fewer r (n ∷ n ∷ ns) (fewer-twice n ns)))
-
--- messages that all fit a kind
-abbrev pub AllFit : Kind → List Tree → Type 0
-AllFit k [] = Unit {0}
-AllFit k (s ∷ ss) = FitsAfter k [] s × AllFit k ss
 
 -- a repeated message whose cost is small
 pub fit-eachSub : {k : Kind} {n : ℕ} {ns : List ℕ} {t : Tree} (k' : Kind) (m : ℕ) (ss : List Tree) → FieldNumber n → m < 2 ^ 64 → CostMost m ss

@@ -2,27 +2,23 @@
 use Prim.Native.Nat.{ℕ, _^_}
 use mathlib.Core.List.{List, [], _∷_}
 use mathlib.Core.Option.{Option, none, some}
-use mathlib.Core.Bool.{Bool, true, false}
+use mathlib.Core.Bool.{Bool, true, false, _&&_}
 use lib.ListN.{length}
 use lib.Dec.{ltb, leb, eqb}
-use Rattle.fields_wire.specs.Reader.{choose}
 use Rattle.fields_wire.specs.Wire.{vint, vlen, v32}
 use Rattle.fields_schema.specs.Rules.{ruleOf}
 use Rattle.fields_schema.specs.Tree.{among, Content, cInt, cRaw, cFix, cMsg, Tree, done, int, raw, fix, sub}
 use Rattle.fields_encoding.specs.Encode.{encode, says}
 use Rattle.fields_schema.specs.declared.Kind.{Kind}
 
-abbrev pub both : Bool → Bool → Bool
-both s t = choose s t false
-
 abbrev pub isFieldNumber : ℕ → Bool
-isFieldNumber n = both (leb 1 n) (ltb n (2 ^ 29))
+isFieldNumber n = leb 1 n && ltb n (2 ^ 29)
 
 abbrev pub equal : List ℕ → List ℕ → Bool
 equal [] [] = true
 equal [] (b ∷ bs) = false
 equal (a ∷ as') [] = false
-equal (a ∷ as') (b ∷ bs) = both (eqb a b) (equal as' bs)
+equal (a ∷ as') (b ∷ bs) = eqb a b && equal as' bs
 
 abbrev pub saysInt : Option Content → ℕ → Bool
 saysInt none v = false
@@ -56,11 +52,11 @@ saysMessage (some (cMsg k c)) test = test k
 unfoldable pub isFit : Kind → List ℕ → Tree → Bool
 isFit k ns done = true
 isFit k ns (int n v t) =
-    both (isFieldNumber n) (both (ltb v (2 ^ 64)) (both (saysInt (says (ruleOf k n) (among n ns) (vint v)) v) (isFit k (n ∷ ns) t)))
+    isFieldNumber n && (ltb v (2 ^ 64) && (saysInt (says (ruleOf k n) (among n ns) (vint v)) v && isFit k (n ∷ ns) t))
 isFit k ns (raw n b t) =
-    both (isFieldNumber n) (both (ltb (length b) (2 ^ 64)) (both (saysRaw (says (ruleOf k n) (among n ns) (vlen b)) b) (isFit k (n ∷ ns) t)))
+    isFieldNumber n && (ltb (length b) (2 ^ 64) && (saysRaw (says (ruleOf k n) (among n ns) (vlen b)) b && isFit k (n ∷ ns) t))
 isFit k ns (fix n b t) =
-    both (isFieldNumber n) (both (eqb (length b) 4) (both (saysFix (says (ruleOf k n) (among n ns) (v32 b)) b) (isFit k (n ∷ ns) t)))
+    isFieldNumber n && (eqb (length b) 4 && (saysFix (says (ruleOf k n) (among n ns) (v32 b)) b && isFit k (n ∷ ns) t))
 isFit k ns (sub n s t) =
-    both (isFieldNumber n) (both (ltb (length (encode s)) (2 ^ 64))
-    (both (saysMessage (says (ruleOf k n) (among n ns) (vlen (encode s))) (λ k'. isFit k' [] s)) (isFit k (n ∷ ns) t)))
+    isFieldNumber n && (ltb (length (encode s)) (2 ^ 64) &&
+    (saysMessage (says (ruleOf k n) (among n ns) (vlen (encode s))) (λ k'. isFit k' [] s) && isFit k (n ∷ ns) t))

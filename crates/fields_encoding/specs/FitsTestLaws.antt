@@ -3,20 +3,20 @@ use Prim.Native.Nat.{ℕ, _^_}
 use mathlib.Core.Path.{_≡_, refl, ap, _∙_}
 use mathlib.Core.List.{List, [], _∷_}
 use mathlib.Core.Option.{Option, none, some}
-use mathlib.Core.Bool.{Bool, true, false}
+use mathlib.Core.Bool.{Bool, true, false, _&&_}
 use lib.ListN.{length}
 use lib.Dec.{ltb, leb, eqb}
 use borrow.Author.Tests.{ltb-true, leb-true, eqb-true, lt-ltb, le-leb, eq-eqb}
 use Rattle.fields_wire.specs.Wire.{vint, vlen, v32}
 use Rattle.fields_schema.specs.Rules.{ruleOf}
 use Rattle.fields_schema.specs.Tree.{among, Content, cInt, cRaw, cFix, cMsg, Tree, done, int, raw, fix, sub}
-use Rattle.fields_encoding.specs.Basics.{never}
+use Rattle.fields_encoding.specs.BasicLaws.{never}
 use Rattle.fields_encoding.specs.Encode.{encode, FieldNumber, says, FitsAfter, ends, ints, raws, fixs, subs}
-use Rattle.fields_encoding.specs.Depth.{says-message}
-use Rattle.fields_encoding.specs.FitsTest.{both, isFieldNumber, equal, saysInt, saysRaw, saysFix, saysMessage, isFit}
+use Rattle.fields_encoding.specs.DepthLaws.{says-message}
+use Rattle.fields_encoding.specs.FitsTest.{isFieldNumber, equal, saysInt, saysRaw, saysFix, saysMessage, isFit}
 use Rattle.fields_schema.specs.declared.Kind.{Kind}
 
-both-true : (s t : Bool) → both s t ≡ true → (s ≡ true) × (t ≡ true)
+both-true : (s t : Bool) → (s && t) ≡ true → (s ≡ true) × (t ≡ true)
 both-true true t h = (refl, h)
 both-true false t h = never (cc)
 

@@ -7,7 +7,7 @@ use mathlib.Core.Option.{Option, none, some}
 use mathlib.Core.Bool.{Bool, true, false}
 use Rattle.fields_schema.specs.Rules.{ruleOf}
 use Rattle.fields_schema.specs.Tree.{isSome, level, Tree, done, subAt, treeIn}
-use Rattle.fields_rule.specs.Judged.{bit}
+use Rattle.base_definitions.specs.Bits.{bit}
 use Rattle.fields_decode.specs.Slots.{Tells, Sized}
 use Rattle.fields_schema.specs.declared.Kind.{Kind}
 use Rattle.fields_schema.specs.declared.Form.the-variants.{Nested}

@@ -11,7 +11,8 @@ use lib.Seq.{drop-drop, take-length}
 use Rattle.fields_wire.specs.Wire.{Value, vint, v64, vlen, v32, fieldsOf, fieldsIn}
 use Rattle.fields_schema.specs.Rules.{namesOf, ruleOf}
 use Rattle.fields_schema.specs.Tree.{mapO, guard, isSome, among, Content, cInt, cRaw, cMsg, Item, isInt32, ofInt, ofBytes, ofFixed, decode, find, items, level, Tree, done, openAll, listedIn, listed, intAt, rawAt, subAt, treeIn}
-use Rattle.fields_rule.specs.Judged.{bit, isSingle, Sole}
+use Rattle.base_definitions.specs.Bits.{bit}
+use Rattle.fields_rule.specs.Judged.{isSingle, Sole}
 use Rattle.fields_decode.specs.Slots.{findLast, Sized, Holds, Tells, Shows}
 use Rattle.fields_schema.specs.declared.Kind.{Kind}
 use Rattle.fields_schema.specs.OptionLaws.{nothing-some, none-of}
@@ -21,7 +22,8 @@ use Rattle.fields_schema.specs.declared.Rule.{Rule}
 use Rattle.fields_schema.specs.declared.Rule.the-variants.{Unlisted, Refused, Once, Single, Repeated}
 use Rattle.fields_decode.specs.declared.slots.Slots.{Slots}
 use Rattle.fields_lookup.specs.Views.{treeOf, bytesAt, noPart, Inside, Lies, Level, SlotInside, Singular, isNumeric, isNumber, Alone, NumIs, Sub, PartIs}
-use Rattle.fields_lookup.specs.LevelLaws.{Is, Decodes, all-more, level-all, level-decodes, level-once, last-there, sole-last, level-of, intC, rawC, subC, int-look, raw-look, sub-look, IsMessage, there-look, open-message}
+use Rattle.fields_lookup.specs.Level.{Is, Decodes, intC, rawC, subC, IsMessage}
+use Rattle.fields_lookup.specs.LevelLaws.{all-more, level-all, level-decodes, level-once, last-there, sole-last, level-of, int-look, raw-look, sub-look, there-look, open-message}
 use Rattle.fields_lookup.specs.declared.parts.Part.{Part}
 
 -- the forms ------------------------------------------------------------------------------------

@@ -4,18 +4,18 @@ use native.Mathlib.Omega.{arith}
 use mathlib.Core.Path.{_≡_, refl, sym, ap, _∙_, subst}
 use mathlib.Core.List.{List, [], _∷_, _++_}
 use mathlib.Core.Option.{Option, none, some}
-use mathlib.Core.Bool.{Bool, true, false}
+use mathlib.Core.Bool.{Bool, true, false, cond}
 use lib.Dec.{eqb}
 use lib.ListN.{length}
 use borrow.Author.Tests.{eqb-true}
-use Rattle.fields_wire.specs.Reader.{choose}
 use Rattle.fields_wire.specs.Wire.{Value, Field, field, fieldsOf}
 use Rattle.fields_schema.specs.Rules.{ruleOf, strictOf}
 use Rattle.fields_schema.specs.Tree.{mapO, thenO, guard, isSome, Content, cInt, cRaw, cFix, cMsg, Item, item, decode, find, add, byRule, step, items, itemsO, level}
 use Rattle.fields_schema.specs.Tree.{Tree, done, int, raw, fix, sub, openOne, openAll, listed, later, intAt, rawAt, joinO, subAt, treeIn, consIf, subsAt}
 use Rattle.fields_schema.specs.OptionLaws.{nothing-some, then-some, none-of}
-use Rattle.fields_schema.specs.Merged.{isCons, sub-some}
-use Rattle.fields_schema.specs.Depth.{listed-opens}
+use Rattle.fields_schema.specs.Merged.{isCons}
+use Rattle.fields_schema.specs.MergedLaws.{sub-some}
+use Rattle.fields_schema.specs.DepthLaws.{listed-opens}
 use Rattle.fields_rule.specs.Judged.{Sole}
 use Rattle.fields_rule.specs.SoleLaws.{sole-snoc}
 use Rattle.fields_decode.specs.Slots.{findLast}
@@ -24,14 +24,15 @@ use Rattle.fields_schema.specs.declared.Form.{Form}
 use Rattle.fields_schema.specs.declared.Rule.{Rule}
 use Rattle.fields_schema.specs.declared.Rule.the-variants.{Unlisted, Refused, Once, Single, Repeated}
 use Rattle.fields_lookup.specs.Views.{Reads, treeOf, Singular}
+use Rattle.fields_lookup.specs.Level.{AllOf, Decodes, intC, rawC, subC, Is, IsMessage}
 
 -- a property of the items of a level, kept by each field ------------------------------------
 module _ (P : List Item → Type 0) where
-  abbrev pub Maybe : Option (List Item) → Type 0
+  abbrev Maybe : Option (List Item) → Type 0
   Maybe none = Unit {0}
   Maybe (some is) = P is
 
-  kept-choose : (t : Bool) (o : Option (List Item)) → (t ≡ false → Maybe o) → Maybe (choose t none o)
+  kept-choose : (t : Bool) (o : Option (List Item)) → (t ≡ false → Maybe o) → Maybe (cond t none o)
   kept-choose true o h = tt
   kept-choose false o h = h refl
 
@@ -100,14 +101,6 @@ singular-decodes (Once g) f c s h = (h .0, ap (λ f. decode f (h .0)) s ∙ h .1
 singular-decodes (Single g) f c s h = (h .0, ap (λ f. decode f (h .0)) s ∙ h .1)
 singular-decodes (Repeated g) f c s h = absurd s
 
--- what is under a number, of one sort
-abbrev pub AllOf : (Content → Type 0) → ℕ → List Item → Type 0
-AllOf P n [] = Unit {0}
-AllOf P n (item m c ∷ is) = (eqb n m ≡ true → P c) × AllOf P n is
-
-abbrev pub Decodes : Form → Content → Type 0
-Decodes f c = (v : Value) × (decode f v ≡ some c)
-
 all-ruled : (k : Kind) (n : ℕ) (f : Form) (is : List Item) → Singular f (ruleOf k n) → AllRuled k is → AllOf (Decodes f) n is
 all-ruled k n f [] q h = tt
 all-ruled k n f (item m c ∷ is) q h =
@@ -138,7 +131,7 @@ pub last-there : (n : ℕ) (is : List Item) → isSome (findLast n is) ≡ isSom
 last-there n [] = refl
 last-there n (item m c ∷ is) = go (findLast n is) (find n is) (eqb n m) (last-there n is)
   where
-    go : (o p : Option Content) (t : Bool) → isSome o ≡ isSome p → isSome (later o (guard t c)) ≡ isSome (choose t (some c) p)
+    go : (o p : Option Content) (t : Bool) → isSome o ≡ isSome p → isSome (later o (guard t c)) ≡ isSome (cond t (some c) p)
     go none p true e = refl
     go none p false e = e
     go (some x) p true e = refl
@@ -152,7 +145,7 @@ sole-last n (item m c ∷ is) o = go (sole-last n is (o .1)) (eqb n m) refl
     same none = refl
     same (some x) = refl
 
-    go : findLast n is ≡ find n is → (t : Bool) → eqb n m ≡ t → later (findLast n is) (guard t c) ≡ choose t (some c) (find n is)
+    go : findLast n is ≡ find n is → (t : Bool) → eqb n m ≡ t → later (findLast n is) (guard t c) ≡ cond t (some c) (find n is)
     go h true e = ap (λ o. later o (some c)) (h ∙ o .0 e)
     go h false e = same (findLast n is) ∙ h
 
@@ -166,28 +159,6 @@ level-once k n g r s e =
   where
     other : (m : ℕ) → eqb n m ≡ true → Once g ≡ ruleOf k m
     other m w = sym r ∙ ap (ruleOf k) (eqb-true n m w)
-
--- in the tree -----------------------------------------------------------------------------------
-abbrev pub intC : Option Content → Option ℕ
-intC none = none
-intC (some (cInt v)) = some v
-intC (some (cRaw b)) = none
-intC (some (cFix b)) = none
-intC (some (cMsg k b)) = none
-
-abbrev pub rawC : Option Content → Option (List ℕ)
-rawC none = none
-rawC (some (cInt v)) = none
-rawC (some (cRaw b)) = some b
-rawC (some (cFix b)) = none
-rawC (some (cMsg k b)) = none
-
-abbrev pub subC : Option Content → Option Tree
-subC none = none
-subC (some (cInt v)) = none
-subC (some (cRaw b)) = none
-subC (some (cFix b)) = none
-subC (some (cMsg k b)) = listed k b
 
 -- one item before the others: of another sort, or of the number looked for
 module _ {A : Type 0} (X : Option Content → Option A) (z : X none ≡ none) (n : ℕ) (is : List Item) {x : Option A} (ih : x ≡ X (findLast n is)) (c : Content) (b : Bool) where
@@ -205,10 +176,6 @@ module _ {A : Type 0} (X : Option Content → Option A) (z : X none ≡ none) (n
       go none e true = ap (λ y. later y (some v)) (ih ∙ ap X e ∙ z) ∙ sym w
       go none e false = ap (λ y. later y none) (ih ∙ ap X e ∙ z) ∙ sym z
       go (some d) e t = let i = f d e in ap (λ y. later y (guard t v)) (ih ∙ ap X e ∙ i .1) ∙ sym (i .1)
-
--- of a sort
-abbrev pub Is : {A : Type 0} → (Option Content → Option A) → Content → Type 0
-Is {A} X c = (v : A) × (X (some c) ≡ some v)
 
 not-of : (b : Bool) → (b ≡ true → ⊥) → b ≡ false
 not-of true f = absurd (f refl)
@@ -254,10 +221,10 @@ raw-look n (item m c ∷ is) t e o =
 -- one item before the others, of a message that occurs once
 module _ {A : Type 0} (X : Option Content → Option A) (z : X none ≡ none) (n : ℕ) (is : List Item) {x : Option A} (ih : x ≡ X (find n is)) (c : Content) (b : Bool)
     (o : b ≡ true → find n is ≡ none) where
-  pass : X (some c) ≡ none → x ≡ X (choose b (some c) (find n is))
+  pass : X (some c) ≡ none → x ≡ X (cond b (some c) (find n is))
   pass w = go b refl
     where
-      go : (t : Bool) → b ≡ t → x ≡ X (choose t (some c) (find n is))
+      go : (t : Bool) → b ≡ t → x ≡ X (cond t (some c) (find n is))
       go true e = ih ∙ ap X (o e) ∙ z ∙ sym w
       go false e = ih
 
@@ -268,37 +235,31 @@ sub-look n (item m c ∷ is) t e o =
     let i = then-some (openAll (λ k b. listed k b) is) (λ t. openOne (λ k b. listed k b) m c t) e in
     go c (i .0) (sub-look n is (i .0) (i .1) (o .1)) (i .2)
   where
-    go : (c : Content) (t0 : Tree) → subAt n t0 ≡ subC (find n is) → openOne (λ k b. listed k b) m c t0 ≡ some t → subAt n t ≡ subC (choose (eqb n m) (some c) (find n is))
+    go : (c : Content) (t0 : Tree) → subAt n t0 ≡ subC (find n is) → openOne (λ k b. listed k b) m c t0 ≡ some t → subAt n t ≡ subC (cond (eqb n m) (some c) (find n is))
     go (cInt v) t0 ih q = let w : int m v t0 ≡ t = cc (q) in ap (subAt n) (sym w) ∙ pass subC refl n is ih (cInt v) (eqb n m) (o .0) refl
     go (cRaw b) t0 ih q = let w : raw m b t0 ≡ t = cc (q) in ap (subAt n) (sym w) ∙ pass subC refl n is ih (cRaw b) (eqb n m) (o .0) refl
     go (cFix b) t0 ih q = let w : fix m b t0 ≡ t = cc (q) in ap (subAt n) (sym w) ∙ pass subC refl n is ih (cFix b) (eqb n m) (o .0) refl
     go (cMsg k b) t0 ih q = inner (listed k b) refl q
       where
-        joined : (s : Tree) (x : Bool) → eqb n m ≡ x → listed k b ≡ some s → joinO x s (subAt n t0) ≡ subC (choose x (some (cMsg k b)) (find n is))
+        joined : (s : Tree) (x : Bool) → eqb n m ≡ x → listed k b ≡ some s → joinO x s (subAt n t0) ≡ subC (cond x (some (cMsg k b)) (find n is))
         joined s true g r = ap (joinO true s) (ih ∙ ap subC (o .0 g)) ∙ sym r
         joined s false g r = ih
 
-        inner : (x : Option Tree) → listed k b ≡ x → mapO (λ s. sub m s t0) x ≡ some t → subAt n t ≡ subC (choose (eqb n m) (some (cMsg k b)) (find n is))
+        inner : (x : Option Tree) → listed k b ≡ x → mapO (λ s. sub m s t0) x ≡ some t → subAt n t ≡ subC (cond (eqb n m) (some (cMsg k b)) (find n is))
         inner none r q = nothing-some q
         inner (some s) r q = let w : sub m s t0 ≡ t = cc (q) in ap (subAt n) (sym w) ∙ joined s (eqb n m) refl r
 
 -- whether there is a message of a number, however often
-some-later : (o : Option Content) (b : Bool) (c : Content) → isSome (later o (guard b c)) ≡ choose b true (isSome o)
+some-later : (o : Option Content) (b : Bool) (c : Content) → isSome (later o (guard b c)) ≡ cond b true (isSome o)
 some-later none true c = refl
 some-later none false c = refl
 some-later (some d) true c = refl
 some-later (some d) false c = refl
 
-some-join : (o : Option Tree) (b : Bool) (s : Tree) → isSome (joinO b s o) ≡ choose b true (isSome o)
+some-join : (o : Option Tree) (b : Bool) (s : Tree) → isSome (joinO b s o) ≡ cond b true (isSome o)
 some-join o false s = refl
 some-join none true s = refl
 some-join (some u) true s = refl
-
-abbrev pub IsMessage : Content → Type 0
-IsMessage (cInt v) = ⊥
-IsMessage (cRaw b) = ⊥
-IsMessage (cFix b) = ⊥
-IsMessage (cMsg k b) = Unit {0}
 
 pub there-look : (n : ℕ) (is : List Item) (t : Tree) → openAll (λ k b. listed k b) is ≡ some t → AllOf IsMessage n is → isSome (subAt n t) ≡ isSome (findLast n is)
 unfolding openAll
@@ -308,7 +269,7 @@ there-look n (item m c ∷ is) t e o =
     go c (i .0) (there-look n is (i .0) (i .1) (o .1)) (o .0) (i .2)
   where
     other : (c : Content) (t0 : Tree) → isSome (subAt n t0) ≡ isSome (findLast n is) → (eqb n m ≡ true → ⊥) → subAt n t ≡ subAt n t0 → isSome (subAt n t) ≡ isSome (later (findLast n is) (guard (eqb n m) c))
-    other c t0 ih f w = ap isSome w ∙ ih ∙ sym (some-later (findLast n is) (eqb n m) c ∙ ap (λ b. choose b true (isSome (findLast n is))) (not-of (eqb n m) f))
+    other c t0 ih f w = ap isSome w ∙ ih ∙ sym (some-later (findLast n is) (eqb n m) c ∙ ap (λ b. cond b true (isSome (findLast n is))) (not-of (eqb n m) f))
 
     go : (c : Content) (t0 : Tree) → isSome (subAt n t0) ≡ isSome (findLast n is) → (eqb n m ≡ true → IsMessage c) → openOne (λ k b. listed k b) m c t0 ≡ some t
         → isSome (subAt n t) ≡ isSome (later (findLast n is) (guard (eqb n m) c))
@@ -321,7 +282,7 @@ there-look n (item m c ∷ is) t e o =
         inner none q = nothing-some q
         inner (some s) q =
             let w : sub m s t0 ≡ t = cc (q) in
-            ap (λ t. isSome (subAt n t)) (sym w) ∙ some-join (subAt n t0) (eqb n m) s ∙ ap (choose (eqb n m) true) ih ∙ sym (some-later (findLast n is) (eqb n m) (cMsg k b))
+            ap (λ t. isSome (subAt n t)) (sym w) ∙ some-join (subAt n t0) (eqb n m) s ∙ ap (cond (eqb n m) true) ih ∙ sym (some-later (findLast n is) (eqb n m) (cMsg k b))
 
 -- every message inside a message that decodes decodes
 pub open-message : (n : ℕ) (k : Kind) (b : List ℕ) (is : List Item) (t : Tree) → openAll (λ k b. listed k b) is ≡ some t → find n is ≡ some (cMsg k b) → (u : Tree) × (listed k b ≡ some u)
@@ -335,7 +296,7 @@ open-message n k b (item m c ∷ is) t e q =
     mapped g none w = nothing-some w
     mapped g (some u) w = (u, refl)
 
-    go : (t0 : Tree) (x : Bool) → choose x (some c) (find n is) ≡ some (cMsg k b) → openOne (λ k b. listed k b) m c t0 ≡ some t
+    go : (t0 : Tree) (x : Bool) → cond x (some c) (find n is) ≡ some (cMsg k b) → openOne (λ k b. listed k b) m c t0 ≡ some t
         → (find n is ≡ some (cMsg k b) → (u : Tree) × (listed k b ≡ some u)) → (u : Tree) × (listed k b ≡ some u)
     go t0 true w v f =
         let p : c ≡ cMsg k b = cc (w) in

@@ -1,4 +1,5 @@
 pub mod Views
+pub mod Level
 pub mod LevelLaws
-pub mod Slices
+pub mod SliceLaws
 pub mod LaterLaws

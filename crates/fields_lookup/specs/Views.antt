@@ -2,12 +2,13 @@
 use Prim.Native.Nat.{ℕ, _+_, _≤_}
 use mathlib.Core.Path.{_≡_}
 use mathlib.Core.List.{List, []}
-use mathlib.Core.Option.{Option, none, some}
+use mathlib.Core.Option.{Option}
 use mathlib.Core.Bool.{Bool, true, false}
 use lib.ListN.{length, take, drop, getD}
 use Rattle.fields_schema.specs.Rules.{ruleOf}
 use Rattle.fields_schema.specs.Tree.{guard, isSome, level, Tree, join, listed, intAt, rawAt, subAt, treeIn}
-use Rattle.fields_rule.specs.Judged.{bit}
+use Rattle.base_definitions.specs.Options.{orElse}
+use Rattle.base_definitions.specs.Bits.{bit}
 use Rattle.fields_decode.specs.Slots.{Tells}
 use Rattle.fields_schema.specs.declared.Kind.{Kind}
 use Rattle.fields_schema.specs.declared.Form.{Form}
@@ -41,14 +42,10 @@ noPart = record { has = false; start = 0; len = 0 }
 abbrev pub Inside : List ℕ → Part → Type 0
 Inside s p = p .start + p .len ≤ length s
 
-abbrev pub orEmpty : Option (List ℕ) → List ℕ
-orEmpty none = []
-orEmpty (some b) = b
-
 -- a part lies inside, and is empty where there is none
 pub record Lies (s : List ℕ) (p : Part) : Type 0 where
   pub inside : Inside s p
-  pub empty : bytesAt s p ≡ orEmpty (partView s p)
+  pub empty : bytesAt s p ≡ orElse [] (partView s p)
 
 -- t holds the level of m, of kind k, which decodes
 pub record Level (k : Kind) (m : List ℕ) (t : Slots) : Type 0 where

@@ -1,8 +1,8 @@
 // Numbers and parts of a message, out of the slots of a level.
+ghost use mathlib.Core.Bool.{cond};
 ghost use mathlib.Core.Path.{_≡_};
 ghost use Prim.Native.Nat.{_<_};
-ghost use Rattle.fields_wire.specs.Reader.{choose};
-ghost use Rattle.fields_rule.specs.Judged.{bit};
+ghost use Rattle.base_definitions.specs.Bits.{bit};
 ghost use Rattle.fields_schema.specs.Tree.{level};
 ghost use Rattle.fields_decode.specs.Slots.{Sized, Tells};
 ghost use Rattle.fields_lookup.specs.Views.{bytesAt, Inside, SlotInside, NumIs, PartIs};
@@ -80,7 +80,7 @@ pub fn sent_twice(t: Slots) -> bool
 
 // The later number, or where there is none the earlier.
 pub fn later_num(before: Num, after: Num) -> Num
-    ensures { λ r. ⌜ r ≡ choose (after .has) after before ⌝ }
+    ensures { λ r. ⌜ r ≡ cond (after .has) after before ⌝ }
 {
     let has = after.has;
     if has {
@@ -97,7 +97,7 @@ pub fn later_num(before: Num, after: Num) -> Num
 
 // The later part, or where there is none the earlier.
 pub fn later_part(before: Part, after: Part) -> Part
-    ensures { λ r. ⌜ r ≡ choose (after .has) after before ⌝ }
+    ensures { λ r. ⌜ r ≡ cond (after .has) after before ⌝ }
 {
     let has = after.has;
     if has {

@@ -1,3 +1,5 @@
 pub mod Values
+pub mod Repeated
 pub mod RepeatedLaws
-pub mod Joined
+pub mod Joins
+pub mod JoinsLaws

@@ -3,10 +3,9 @@ use Prim.Native.Nat.{ℕ}
 use mathlib.Core.Path.{_≡_, refl, sym, ap, ap₂, _∙_, subst}
 use mathlib.Core.List.{List, [], _∷_, _++_, append-assoc, append-nil}
 use mathlib.Core.Option.{Option, none, some}
-use mathlib.Core.Bool.{Bool, true, false}
+use mathlib.Core.Bool.{Bool, true, false, cond}
 use lib.Dec.{eqb}
 use borrow.Author.Tests.{eqb-true}
-use Rattle.fields_wire.specs.Reader.{choose}
 use Rattle.fields_wire.specs.Wire.{Value, vint, v64, vlen, v32, Field, field, fieldsOf}
 use Rattle.fields_schema.specs.Rules.{namesOf, ruleOf, strictOf}
 use Rattle.fields_schema.specs.Tree.{mapO, guard, isSome, among, Content, cInt, cRaw, cFix, cMsg, Item, item, isInt32, decode, find, add, byRule, step, items, itemsO, level}
@@ -22,6 +21,7 @@ use Rattle.fields_lookup.specs.Views.{Reads, treeOf}
 use Rattle.fields_repeated.specs.Values.{valuesOf, orNil, valuesIn, partsOf, numbersOf, partsIn, numbersIn, WellFramed}
 use Rattle.fields_schema.specs.OptionLaws.{nothing-some, then-some}
 use Rattle.fields_lookup.specs.LevelLaws.{level-of}
+use Rattle.fields_repeated.specs.Repeated.{AllAmong, treesOf, AllRead}
 
 -- what the items of a number hold, in order
 abbrev contents : ℕ → List Item → List Content
@@ -53,7 +53,7 @@ grown-add : (m : ℕ) (is js : List Item) (o : Option Content) → add m is o �
 grown-add m is js none e = nothing-some e
 grown-add m is js (some c) e = let q : is ++ (item m c ∷ []) ≡ js = cc in subst (λ (l : List Item). Grown m is l) q (more c)
 
-grown-choose : (m : ℕ) (is js : List Item) (t : Bool) (o : Option (List Item)) → choose t none o ≡ some js → (o ≡ some js → Grown m is js) → Grown m is js
+grown-choose : (m : ℕ) (is js : List Item) (t : Bool) (o : Option (List Item)) → cond t none o ≡ some js → (o ≡ some js → Grown m is js) → Grown m is js
 grown-choose m is js true o e h = nothing-some e
 grown-choose m is js false o e h = h e
 
@@ -81,7 +81,7 @@ module _ (k : Kind) (n : ℕ) (g : Form) (ρ : Has g (ruleOf k n)) where
       go none q = nothing-some q
       go (some c) q = (c, refl, (cc))
 
-      other : (t : Bool) (o : Option (List Item)) → choose t none o ≡ some a → o ≡ some a
+      other : (t : Bool) (o : Option (List Item)) → cond t none o ≡ some a → o ≡ some a
       other true o q = nothing-some q
       other false o q = q
 
@@ -225,11 +225,6 @@ each-ints f g (v ∷ vs) (c ∷ cs) h =
     let i = g v c (h .0) in
     ap (λ v. numbersOf (v ∷ vs)) (i .1) ∙ ap (λ l. i .0 ∷ l) (each-ints f g vs cs (h .1)) ∙ ap (λ c. intsC (c ∷ cs)) (sym (i .2))
 
--- numbers that are each among some
-abbrev pub AllAmong : List ℕ → List ℕ → Type 0
-AllAmong names [] = Unit {0}
-AllAmong names (v ∷ vs) = (among v names ≡ true) × AllAmong names vs
-
 guard-true : (t : Bool) (v : ℕ) {c : Content} → guard t (cInt v) ≡ some c → t ≡ true
 guard-true true v e = refl
 guard-true false v e = nothing-some e
@@ -253,15 +248,6 @@ each-raws (vlen b ∷ vs) (c ∷ cs) h =
     let w : cRaw b ≡ c = cc (q) in
     subst (λ (c : Content). b ∷ partsOf vs ≡ rawsC (c ∷ cs)) w (ap (λ l. b ∷ l) (each-raws vs cs (h .1)))
 each-raws (v32 b ∷ vs) (c ∷ cs) h = nothing-some (h .0)
-
--- what each part says, as a message of a kind
-abbrev pub treesOf : Kind → List (List ℕ) → List Tree
-treesOf k [] = []
-treesOf k (b ∷ bs) = treeOf k b ∷ treesOf k bs
-
-abbrev pub AllRead : Kind → List (List ℕ) → Type 0
-AllRead k [] = Unit {0}
-AllRead k (b ∷ bs) = Reads k b × AllRead k bs
 
 each-subs : (k : Kind) (vs : List Value) (cs : List Content) → Each (Nested k) vs cs → ReadC cs → (treesOf k (partsOf vs) ≡ subsC cs) × AllRead k (partsOf vs)
 each-subs k [] [] h r = (refl, tt)

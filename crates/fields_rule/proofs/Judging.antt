@@ -4,17 +4,17 @@ use native.Mathlib.Omega.{arith}
 use mathlib.Core.Path.{_≡_, refl, sym, ap, _∙_, subst}
 use mathlib.Core.List.{List, [], _∷_, _++_}
 use mathlib.Core.Option.{Option, none, some}
-use mathlib.Core.Bool.{Bool, true, false}
+use mathlib.Core.Bool.{Bool, true, false, cond, _||_}
 use mathlib.Core.Logic.{_⊎_, inl, inr, ⊎-elim}
 use lib.Dec.{eqb, ltb}
 use borrow.Author.Tests.{eqb-true, ne-eqb, ltb-true, ltb-false}
-use Rattle.fields_wire.specs.Reader.{choose}
 use Rattle.fields_wire.specs.Wire.{field}
 use Rattle.fields_wire_reader.specs.FieldAnswer.{endsFound, numberIn, valueIn}
 use Rattle.fields_wire_reader.specs.declared.Found.{Found}
 use Rattle.fields_schema.specs.Rules.{Table, end, row, look, tableOf, ruleOf, strictOf}
 use Rattle.fields_schema.specs.Tree.{isSome, Content, Item, item, decode, find, add, byRule, step, later}
-use Rattle.fields_rule.specs.Judged.{bit, withAgain, withMark, isSingle, listedBy, Marks, unlistedOf, fieldIn, Takes, Judges}
+use Rattle.base_definitions.specs.Bits.{bit}
+use Rattle.fields_rule.specs.Judged.{withAgain, withMark, isSingle, listedBy, Marks, unlistedOf, fieldIn, Takes, Judges}
 use Rattle.fields_schema.specs.OptionLaws.{none-of}
 use Rattle.fields_rule.specs.SoleLaws.{find-last, sole-snoc}
 use Rattle.fields_schema.specs.declared.Kind.{Kind}
@@ -28,12 +28,20 @@ use Rattle.fields_rule.specs.declared.Listed.{Listed}
 use Rattle.fields_rule.specs.declared.Listed.the-variants.{Not, Never, As}
 use Rattle.fields_rule.specs.declared.Judged.{Judged}
 use Rattle.fields_rule.specs.declared.Judged.the-variants.{Refuse, Skip}
-use Rattle.fields_rule.proofs.Bits.{set-bit, bits-below}
+use Rattle.base_definitions.specs.BitsLaws.{set-bit, bits-below}
+
+or-cond : (t b : Bool) → (t || b) ≡ cond t true b
+or-cond true b = refl
+or-cond false b = refl
+
+-- a mark that is set is there, and the others stand
+mark-bit : (p q m : ℕ) → bit m p ≡ false → bit (m + 2 ^ p) q ≡ cond (eqb q p) true (bit m q)
+mark-bit p q m e = set-bit p q m e ∙ or-cond (eqb q p) (bit m q)
 
 -- every listed number is below 16 -----------------------------------------------------
 allBelow : Table → Bool
 allBelow end = true
-allBelow (row m r t) = choose (ltb m 16) (allBelow t) false
+allBelow (row m r t) = cond (ltb m 16) (allBelow t) false
 
 -- no field has the number 0
 none-zero : (k : Kind) → ruleOf k 0 ≡ Unlisted
@@ -83,7 +91,7 @@ all-below Capacity = refl
 all-below Limits = refl
 all-below Status = refl
 
-and-true : (a b : Bool) → choose a b false ≡ true → (a ≡ true) × (b ≡ true)
+and-true : (a b : Bool) → cond a b false ≡ true → (a ≡ true) × (b ≡ true)
 and-true true b e = (refl, e)
 and-true false b e = let z : _≡_ {A = ℕ} 0 1 = cc in absurd (omega arith)
 
@@ -116,10 +124,10 @@ repeated-below : (k : Kind) (n : ℕ) {r : Rule} {f : Form} → r ≡ ruleOf k n
 repeated-below k n p q = below-16 k n (λ e. let z : _≡_ {A = ℕ} 0 1 = cc (p, q, e) in omega arith)
 
 -- one item more -------------------------------------------------------------------------
-has-last : (m n : ℕ) (c : Content) (is : List Item) → isSome (find m (is ++ (item n c ∷ []))) ≡ choose (eqb m n) true (isSome (find m is))
+has-last : (m n : ℕ) (c : Content) (is : List Item) → isSome (find m (is ++ (item n c ∷ []))) ≡ cond (eqb m n) true (isSome (find m is))
 has-last m n c is = ap isSome (find-last m n c is) ∙ go (eqb m n) (find m is)
   where
-    go : (t : Bool) (o : Option Content) → isSome (later o (choose t (some c) none)) ≡ choose t true (isSome o)
+    go : (t : Bool) (o : Option Content) → isSome (later o (cond t (some c) none)) ≡ cond t true (isSome o)
     go true none = refl
     go true (some d) = refl
     go false none = refl
@@ -133,20 +141,20 @@ marks-single : (k : Kind) (seen n : ℕ) (is : List Item) → Marks k seen is �
 marks-single k seen n is h l y z c =
     record {
       small = bits-below 16 n seen l (h .small) z;
-      marks = λ m w. set-bit n m seen z ∙ ap (choose (eqb m n) true) (h .marks m w) ∙ sym (has-last m n c is);
+      marks = λ m w. mark-bit n m seen z ∙ ap (cond (eqb m n) true) (h .marks m w) ∙ sym (has-last m n c is);
       alone = λ e m w. sole-snoc m n c is (λ q. ap (λ j. find j is) (eqb-true m n q) ∙ none-of (find n is) (sym (h .marks n y) ∙ z)) (h .alone (before e) m w);
     }
   where
     before : bit (seen + 2 ^ n) 0 ≡ false → bit seen 0 ≡ false
-    before e = sym (set-bit n 0 seen z ∙ ap (λ t. choose t true (bit seen 0)) (ne-eqb 0 n (λ q. not-zero k n y (sym q)))) ∙ e
+    before e = sym (mark-bit n 0 seen z ∙ ap (λ t. cond t true (bit seen 0)) (ne-eqb 0 n (λ q. not-zero k n y (sym q)))) ∙ e
 
 -- a mark that is there stays, and bit 0 is set
 marks-kept : (k : Kind) (seen n : ℕ) (is : List Item) → Marks k seen is → isSingle (ruleOf k n) ≡ true → bit seen n ≡ true → (c : Content)
     → (m : ℕ) → isSingle (ruleOf k m) ≡ true → bit seen m ≡ isSome (find m (is ++ (item n c ∷ [])))
 marks-kept k seen n is h y z c m w = h .marks m w ∙ other (eqb m n) refl ∙ sym (has-last m n c is)
   where
-    other : (t : Bool) → eqb m n ≡ t → isSome (find m is) ≡ choose (eqb m n) true (isSome (find m is))
-    other true e = sym (h .marks m w) ∙ ap (bit seen) (eqb-true m n e) ∙ z ∙ sym (ap (λ t. choose t true (isSome (find m is))) e)
+    other : (t : Bool) → eqb m n ≡ t → isSome (find m is) ≡ cond (eqb m n) true (isSome (find m is))
+    other true e = sym (h .marks m w) ∙ ap (bit seen) (eqb-true m n e) ∙ z ∙ sym (ap (λ t. cond t true (isSome (find m is))) e)
     other false e = rw e
 
 absurd-true : {A : Type 0} {b : Bool} → b ≡ true → b ≡ false → A
@@ -155,18 +163,18 @@ absurd-true p q = let z : _≡_ {A = ℕ} 0 1 = cc (p, q) in absurd (omega arith
 marks-again : (k : Kind) (seen n : ℕ) (is : List Item) → Marks k seen is → isSingle (ruleOf k n) ≡ true → bit seen n ≡ true → (c : Content) → Marks k (withAgain seen) (is ++ (item n c ∷ []))
 marks-again k seen n is h y z c = go (bit seen 0) refl
   where
-    go : (b : Bool) → bit seen 0 ≡ b → Marks k (choose b seen (seen + 2 ^ 0)) (is ++ (item n c ∷ []))
+    go : (b : Bool) → bit seen 0 ≡ b → Marks k (cond b seen (seen + 2 ^ 0)) (is ++ (item n c ∷ []))
     go true e = record { small = h .small; marks = marks-kept k seen n is h y z c; alone = λ q m w. absurd-true e q }
     go false e = record {
       small = bits-below 16 0 seen (omega arith) (h .small) e;
-      marks = λ m w. set-bit 0 m seen e ∙ ap (λ t. choose t true (bit seen m)) (ne-eqb m 0 (not-zero k m w)) ∙ marks-kept k seen n is h y z c m w;
-      alone = λ q m w. absurd-true (set-bit 0 0 seen e) q;
+      marks = λ m w. mark-bit 0 m seen e ∙ ap (λ t. cond t true (bit seen m)) (ne-eqb m 0 (not-zero k m w)) ∙ marks-kept k seen n is h y z c m w;
+      alone = λ q m w. absurd-true (mark-bit 0 0 seen e) q;
     }
 
 marks-with : (k : Kind) (seen n : ℕ) (is : List Item) → Marks k seen is → n < 16 → isSingle (ruleOf k n) ≡ true → (c : Content) → Marks k (withMark seen n) (is ++ (item n c ∷ []))
 marks-with k seen n is h l y c = go (bit seen n) refl
   where
-    go : (b : Bool) → bit seen n ≡ b → Marks k (choose b (withAgain seen) (seen + 2 ^ n)) (is ++ (item n c ∷ []))
+    go : (b : Bool) → bit seen n ≡ b → Marks k (cond b (withAgain seen) (seen + 2 ^ n)) (is ++ (item n c ∷ []))
     go true e = marks-again k seen n is h y e c
     go false e = marks-single k seen n is h l y e c
 
@@ -180,7 +188,7 @@ marks-repeated k seen n is h z c = record {
     apart : {A : Type 0} (m : ℕ) → isSingle (ruleOf k m) ≡ true → eqb m n ≡ true → A
     apart m w e = absurd-true w (ap (λ j. isSingle (ruleOf k j)) (eqb-true m n e) ∙ z)
 
-    other : (m : ℕ) → isSingle (ruleOf k m) ≡ true → (t : Bool) → eqb m n ≡ t → isSome (find m is) ≡ choose (eqb m n) true (isSome (find m is))
+    other : (m : ℕ) → isSingle (ruleOf k m) ≡ true → (t : Bool) → eqb m n ≡ t → isSome (find m is) ≡ cond (eqb m n) true (isSome (find m is))
     other m w true e = apart m w e
     other m w false e = rw e
 
@@ -193,7 +201,7 @@ listed-not Unlisted seen n e = refl
 listed-not Refused seen n e = never (cc)
 listed-not (Once g) seen n e = go (bit seen n) e
   where
-    go : (b : Bool) → choose b Never (As g (withMark seen n)) ≡ Not → Once g ≡ Unlisted
+    go : (b : Bool) → cond b Never (As g (withMark seen n)) ≡ Not → Once g ≡ Unlisted
     go true e = never (cc)
     go false e = never (cc)
 listed-not (Single g) seen n e = never (cc)
@@ -204,7 +212,7 @@ listed-never Unlisted seen n e = never (cc)
 listed-never Refused seen n e = inl refl
 listed-never (Once g) seen n e = inr (g, refl, go (bit seen n) e)
   where
-    go : (b : Bool) → choose b Never (As g (withMark seen n)) ≡ Never → b ≡ true
+    go : (b : Bool) → cond b Never (As g (withMark seen n)) ≡ Never → b ≡ true
     go true e = refl
     go false e = never (cc)
 listed-never (Single g) seen n e = never (cc)
@@ -216,7 +224,7 @@ listed-as Unlisted seen n h next e = never (cc)
 listed-as Refused seen n h next e = never (cc)
 listed-as (Once g) seen n h next e = go (bit seen n) refl e
   where
-    go : (b : Bool) → bit seen n ≡ b → choose b Never (As g (withMark seen n)) ≡ As h next
+    go : (b : Bool) → bit seen n ≡ b → cond b Never (As g (withMark seen n)) ≡ As h next
         → ((Once g ≡ Once h) × (bit seen n ≡ false) × (next ≡ withMark seen n)) ⊎ (((Once g ≡ Single h) × (next ≡ withMark seen n)) ⊎ ((Once g ≡ Repeated h) × (next ≡ seen)))
     go true q e = never (cc)
     go false q e = let a : g ≡ h = cc in inl (ap Once a, q, cc)
@@ -232,9 +240,9 @@ module _ (k : Kind) (f : Found) (n : ℕ) (q : n ≡ numberIn f) (ρ : Rule) (p 
   judges-unlisted : (r : Judged) → ρ ≡ Unlisted → r ≡ unlistedOf k → (s : List ℕ) (is : List Item) → Judges s k is f r
   judges-unlisted r e w s is = go (strictOf k) refl w
     where
-      go : (b : Bool) → strictOf k ≡ b → r ≡ choose b Refuse Skip → Judges s k is f r
-      go true y z = subst (λ (r : Judged). Judges s k is f r) (sym z) (as-rule s is Unlisted e (ap (λ t. choose t none (some is)) y))
-      go false y z = subst (λ (r : Judged). Judges s k is f r) (sym z) (as-rule s is Unlisted e (ap (λ t. choose t none (some is)) y))
+      go : (b : Bool) → strictOf k ≡ b → r ≡ cond b Refuse Skip → Judges s k is f r
+      go true y z = subst (λ (r : Judged). Judges s k is f r) (sym z) (as-rule s is Unlisted e (ap (λ t. cond t none (some is)) y))
+      go false y z = subst (λ (r : Judged). Judges s k is f r) (sym z) (as-rule s is Unlisted e (ap (λ t. cond t none (some is)) y))
 
   judges-refused : ρ ≡ Refused → (s : List ℕ) (is : List Item) → Judges s k is f Refuse
   judges-refused e s is = as-rule s is Refused e refl
@@ -245,7 +253,7 @@ module _ (k : Kind) (f : Found) (n : ℕ) (q : n ≡ numberIn f) (ρ : Rule) (p 
 
     judges-twice : (seen : ℕ) (b : Bool) → b ≡ bit seen n → b ≡ true → (s : List ℕ) (is : List Item) → Marks k seen is → Judges s k is f Refuse
     judges-twice seen b w y s is m =
-        as-rule s is (Once g) e (ap (λ t. choose t none (add n is (decode g (valueIn s f)))) (sym (m .marks n single) ∙ sym w ∙ y))
+        as-rule s is (Once g) e (ap (λ t. cond t none (add n is (decode g (valueIn s f)))) (sym (m .marks n single) ∙ sym w ∙ y))
 
     judges-once : (seen next : ℕ) (b : Bool) (w : Taken) → b ≡ bit seen n → b ≡ false → next ≡ withMark seen n
         → ((s : List ℕ) → meansTaken s w ≡ decode g (valueIn s f)) → ((s : List ℕ) (at : ℕ) → endsFound s at f → insideTaken s w)
@@ -255,7 +263,7 @@ module _ (k : Kind) (f : Found) (n : ℕ) (q : n ≡ numberIn f) (ρ : Rule) (p 
         let o : find n is ≡ none = none-of (find n is) (sym (m .marks n single) ∙ z) in
         record {
           below = once-below k n p e;
-          adds = as-rule s is (Once g) e (ap (λ t. choose (isSome t) none (add n is (decode g (valueIn s f)))) o ∙ ap (add n is) (sym (d s)));
+          adds = as-rule s is (Once g) e (ap (λ t. cond (isSome t) none (add n is (decode g (valueIn s f)))) o ∙ ap (add n is) (sym (d s)));
           inside = i s at j;
           marked = λ c. subst (λ (x : ℕ). Marks k x (is ++ (item n c ∷ []))) (sym x) (marks-with k seen n is m (once-below k n p e) single c);
         }

@@ -1,11 +1,10 @@
 -- What the answers of the code on one field mean over the bytes s that it was read from.
-use Prim.Native.Nat.{ℕ, _+_, _/_, _%_, _^_, _<_}
+use Prim.Native.Nat.{ℕ, _+_, _^_, _<_}
 use mathlib.Core.Path.{_≡_}
 use mathlib.Core.List.{List, [], _∷_, _++_}
 use mathlib.Core.Option.{none, some}
-use mathlib.Core.Bool.{Bool, true, false}
+use mathlib.Core.Bool.{Bool, true, false, cond}
 use lib.Dec.{eqb}
-use Rattle.fields_wire.specs.Reader.{choose}
 use Rattle.fields_wire.specs.Wire.{Field, field}
 use Rattle.fields_wire_reader.specs.FieldAnswer.{numberIn, valueIn}
 use Rattle.fields_wire_reader.specs.declared.Found.{Found}
@@ -19,11 +18,8 @@ use Rattle.fields_value.specs.declared.Taken.{Taken}
 use Rattle.fields_rule.specs.declared.Listed.{Listed}
 use Rattle.fields_rule.specs.declared.Listed.the-variants.{Not, Never, As}
 use Rattle.fields_rule.specs.declared.Judged.{Judged}
+use Rattle.base_definitions.specs.Bits.{bit}
 use Rattle.fields_rule.specs.declared.Judged.the-variants.{Refuse, Skip, Take}
-
--- bit n of a word
-unfoldable pub bit : ℕ → ℕ → Bool
-bit x n = eqb (x / 2 ^ n % 2) 1
 
 abbrev pub isSingle : Rule → Bool
 isSingle Unlisted = false
@@ -34,11 +30,11 @@ isSingle (Repeated f) = false
 
 -- bit 0, which is no field's number: a singular number has come again
 abbrev pub withAgain : ℕ → ℕ
-withAgain seen = choose (bit seen 0) seen (seen + 2 ^ 0)
+withAgain seen = cond (bit seen 0) seen (seen + 2 ^ 0)
 
 -- a mark, which may be there already
 abbrev pub withMark : ℕ → ℕ → ℕ
-withMark seen n = choose (bit seen n) (withAgain seen) (seen + 2 ^ n)
+withMark seen n = cond (bit seen n) (withAgain seen) (seen + 2 ^ n)
 
 -- a number occurs at most once
 abbrev pub Sole : ℕ → List Item → Type 0
@@ -55,12 +51,12 @@ pub record Marks (k : Kind) (seen : ℕ) (is : List Item) : Type 0 where
 abbrev pub listedBy : Rule → ℕ → ℕ → Listed
 listedBy Unlisted seen n = Not
 listedBy Refused seen n = Never
-listedBy (Once f) seen n = choose (bit seen n) Never (As f (withMark seen n))
+listedBy (Once f) seen n = cond (bit seen n) Never (As f (withMark seen n))
 listedBy (Single f) seen n = As f (withMark seen n)
 listedBy (Repeated f) seen n = As f seen
 
 abbrev pub unlistedOf : Kind → Judged
-unlistedOf k = choose (strictOf k) Refuse Skip
+unlistedOf k = cond (strictOf k) Refuse Skip
 
 abbrev pub fieldIn : List ℕ → Found → Field
 fieldIn s f = field (numberIn f) (valueIn s f)

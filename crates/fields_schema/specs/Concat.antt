@@ -4,9 +4,8 @@ use Prim.Native.Nat.{ℕ}
 use mathlib.Core.Path.{_≡_}
 use mathlib.Core.List.{List, [], _∷_}
 use mathlib.Core.Option.{Option, some}
-use mathlib.Core.Bool.{Bool, true, false, not}
+use mathlib.Core.Bool.{Bool, true, false, not, cond}
 use lib.Dec.{eqb}
-use Rattle.fields_wire.specs.Reader.{choose}
 use Rattle.fields_wire.specs.Wire.{vint, v64, vlen, v32, Field, field, fieldsOf}
 use Rattle.fields_schema.specs.Rules.{Table, end, row}
 use Rattle.fields_schema.specs.Tree.{guard, among, Tree, done, int, raw, fix, sub, join, consIf}
@@ -56,12 +55,12 @@ treeNumbers (fix n b t) = n ∷ treeNumbers t
 treeNumbers (sub n s t) = n ∷ treeNumbers t
 
 abbrev pub inBoth : ℕ → List ℕ → List ℕ → Bool
-inBoth n ms ns = choose (among n ms) (among n ns) false
+inBoth n ms ns = cond (among n ms) (among n ns) false
 
 -- none of the numbers os is in both ms and ns
 abbrev pub noneInBoth : List ℕ → List ℕ → List ℕ → Bool
 noneInBoth os [] ns = true
-noneInBoth os (m ∷ ms) ns = choose (inBoth m os ns) false (noneInBoth os ms ns)
+noneInBoth os (m ∷ ms) ns = cond (inBoth m os ns) false (noneInBoth os ms ns)
 
 -- no number that may be sent only once is in both
 abbrev pub apart : Kind → Tree → Tree → Bool
@@ -76,7 +75,7 @@ merged k t u = guard (apart k t u) (join t u)
 -- none of the numbers os is there twice
 abbrev pub noneTwice : List ℕ → List ℕ → Bool
 noneTwice os [] = true
-noneTwice os (n ∷ ns) = choose (inBoth n os ns) false (noneTwice os ns)
+noneTwice os (n ∷ ns) = cond (inBoth n os ns) false (noneTwice os ns)
 
 -- no number that may be sent only once is there twice
 abbrev pub onceEach : Kind → Tree → Bool

@@ -3,25 +3,24 @@ use Prim.Native.Nat.{ℕ}
 use mathlib.Core.Path.{_≡_, refl, sym, ap, _∙_, fun-ext}
 use mathlib.Core.List.{List, [], _∷_, _++_, append-assoc, append-nil}
 use mathlib.Core.Option.{Option, none, some}
-use mathlib.Core.Bool.{Bool, true, false}
+use mathlib.Core.Bool.{Bool, true, false, cond}
 use lib.Dec.{eqb}
-use Rattle.fields_wire.specs.Reader.{choose}
 use Rattle.fields_wire.specs.Wire.{Value, Field, field, fieldsOf}
-use Rattle.fields_wire.specs.WireLaws.{appendO, fields-append}
+use Rattle.fields_wire.specs.Appended.{appendO}
+use Rattle.fields_wire.specs.WireLaws.{fields-append}
 use Rattle.fields_schema.specs.Rules.{strictOf, ruleOf}
 use Rattle.fields_schema.specs.Tree.{mapO, thenO, guard, isSome, among, Content, cInt, cRaw, cFix, cMsg, Item, item, decode, find, add, byRule, step, items, itemsO, level}
 use Rattle.fields_schema.specs.Tree.{Tree, done, int, raw, fix, sub, openOne, openAll, listed, later, intAt, rawAt, join}
 use Rattle.fields_schema.specs.Concat.{onceNumbers, treeNumbers, inBoth, noneInBoth, apart, merged, isOnce}
 use Rattle.fields_schema.specs.LevelLaws.{then-none}
-use Rattle.fields_schema.specs.Merged.{int-join, raw-join, open-append}
-use Rattle.fields_schema.specs.Depth.{listed-opens}
+use Rattle.fields_schema.specs.MergedLaws.{int-join, raw-join, open-append}
+use Rattle.fields_schema.specs.DepthLaws.{listed-opens}
 use Rattle.fields_schema.specs.OnceLaws.{once-numbers, among-append, none-in-both, both-last, plain-apart}
 use Rattle.fields_schema.specs.declared.Kind.{Kind}
 use Rattle.fields_schema.specs.OptionLaws.{nothing-some, then-some, guard-some}
 use Rattle.fields_schema.specs.declared.Rule.{Rule}
 use Rattle.fields_schema.specs.declared.Rule.the-variants.{Unlisted, Refused, Once, Single, Repeated}
-
--- one level --------------------------------------------------------------------------------------------------------------
+use Rattle.fields_schema.specs.Said.{itemNumbers, said}
 
 then-assoc : {A B C : Type 0} (o : Option A) (f : A → Option B) (g : B → Option C) → thenO (thenO o f) g ≡ thenO o (λ a. thenO (f a) g)
 then-assoc none f g = refl
@@ -31,10 +30,6 @@ then-self : {A : Type 0} (o : Option A) → thenO o (λ a. some a) ≡ o
 then-self none = refl
 then-self (some a) = refl
 
-abbrev pub itemNumbers : List Item → List ℕ
-itemNumbers [] = []
-itemNumbers (item n c ∷ is) = n ∷ itemNumbers is
-
 numbers-append : (is js : List Item) → itemNumbers (is ++ js) ≡ itemNumbers is ++ itemNumbers js
 numbers-append [] js = refl
 numbers-append (item n c ∷ is) js = ap (λ l. n ∷ l) (numbers-append is js)
@@ -43,26 +38,26 @@ found : (n : ℕ) (is : List Item) → isSome (find n is) ≡ among n (itemNumbe
 found n [] = refl
 found n (item m c ∷ is) = go (eqb n m) (found n is)
   where
-    go : (t : Bool) → isSome (find n is) ≡ among n (itemNumbers is) → isSome (choose t (some c) (find n is)) ≡ choose t true (among n (itemNumbers is))
+    go : (t : Bool) → isSome (find n is) ≡ among n (itemNumbers is) → isSome (cond t (some c) (find n is)) ≡ cond t true (among n (itemNumbers is))
     go true e = refl
     go false e = e
 
 module _ (os : List ℕ) where
   -- the items b of a message after the items a of another
-  abbrev pub after : List Item → List Item → Option (List Item)
+  abbrev after : List Item → List Item → Option (List Item)
   after a b = guard (noneInBoth os (itemNumbers a) (itemNumbers b)) (a ++ b)
 
   after-none : (a : List Item) → after a [] ≡ some a
   after-none a = ap (λ t. guard t (a ++ [])) (none-in-both os (itemNumbers a)) ∙ ap some (append-nil a)
 
   after-last : (a b : List Item) (n : ℕ) (c : Content)
-      → after a (b ++ (item n c ∷ [])) ≡ choose (inBoth n os (itemNumbers a)) none (thenO (after a b) (λ x. some (x ++ (item n c ∷ []))))
+      → after a (b ++ (item n c ∷ [])) ≡ cond (inBoth n os (itemNumbers a)) none (thenO (after a b) (λ x. some (x ++ (item n c ∷ []))))
   after-last a b n c =
       ap (λ l. guard (noneInBoth os (itemNumbers a) l) (a ++ (b ++ (item n c ∷ [])))) (numbers-append b (item n c ∷ []))
       ∙ ap (λ t. guard t (a ++ (b ++ (item n c ∷ [])))) (both-last os (itemNumbers a) (itemNumbers b) n)
       ∙ go (inBoth n os (itemNumbers a)) (noneInBoth os (itemNumbers a) (itemNumbers b))
     where
-      go : (p q : Bool) → guard (choose p false q) (a ++ (b ++ (item n c ∷ []))) ≡ choose p none (thenO (guard q (a ++ b)) (λ x. some (x ++ (item n c ∷ []))))
+      go : (p q : Bool) → guard (cond p false q) (a ++ (b ++ (item n c ∷ []))) ≡ cond p none (thenO (guard q (a ++ b)) (λ x. some (x ++ (item n c ∷ []))))
       go true q = refl
       go false true = ap some (sym (append-assoc a b (item n c ∷ [])))
       go false false = refl
@@ -71,39 +66,39 @@ module _ (os : List ℕ) where
   free : (n : ℕ) (a b : List Item) (o : Option Content) → among n os ≡ false → thenO (after a b) (λ x. add n x o) ≡ thenO (add n b o) (λ x. after a x)
   free n a b none h = then-none (after a b)
   free n a b (some c) h =
-      sym (after-last a b n c ∙ ap (λ t. choose (choose t (among n (itemNumbers a)) false) none (thenO (after a b) (λ x. some (x ++ (item n c ∷ []))))) h)
+      sym (after-last a b n c ∙ ap (λ t. cond (cond t (among n (itemNumbers a)) false) none (thenO (after a b) (λ x. some (x ++ (item n c ∷ []))))) h)
 
   -- a field that may be sent only once
   only : (n : ℕ) (a b : List Item) (o : Option Content) → among n os ≡ true
-      → thenO (after a b) (λ x. choose (isSome (find n x)) none (add n x o)) ≡ thenO (choose (isSome (find n b)) none (add n b o)) (λ x. after a x)
+      → thenO (after a b) (λ x. cond (isSome (find n x)) none (add n x o)) ≡ thenO (cond (isSome (find n b)) none (add n b o)) (λ x. after a x)
   only n a b none h = nothing (after a b) ∙ sym (ap (λ o. thenO o (λ x. after a x)) (same (isSome (find n b))))
     where
-      same : (t : Bool) → choose {A = Option (List Item)} t none none ≡ none
+      same : (t : Bool) → cond {A = Option (List Item)} t none none ≡ none
       same true = refl
       same false = refl
 
-      nothing : (o : Option (List Item)) → thenO {B = List Item} o (λ x. choose (isSome (find n x)) none none) ≡ none
+      nothing : (o : Option (List Item)) → thenO {B = List Item} o (λ x. cond (isSome (find n x)) none none) ≡ none
       nothing none = refl
       nothing (some x) = same (isSome (find n x))
   only n a b (some c) h =
       one (noneInBoth os (itemNumbers a) (itemNumbers b)) (isSome (find n b)) (among n (itemNumbers a))
-      (found n (a ++ b) ∙ ap (among n) (numbers-append a b) ∙ among-append n (itemNumbers a) (itemNumbers b) ∙ ap (choose (among n (itemNumbers a)) true) (sym (found n b)))
-      ∙ sym (ap (λ o. choose (isSome (find n b)) none o) (after-last a b n c ∙ ap (λ t. choose (choose t (among n (itemNumbers a)) false) none (thenO (after a b) (λ x. some (x ++ (item n c ∷ []))))) h))
+      (found n (a ++ b) ∙ ap (among n) (numbers-append a b) ∙ among-append n (itemNumbers a) (itemNumbers b) ∙ ap (cond (among n (itemNumbers a)) true) (sym (found n b)))
+      ∙ sym (ap (λ o. cond (isSome (find n b)) none o) (after-last a b n c ∙ ap (λ t. cond (cond t (among n (itemNumbers a)) false) none (thenO (after a b) (λ x. some (x ++ (item n c ∷ []))))) h))
       ∙ chosen (isSome (find n b))
     where
-      chosen : (t : Bool) → choose t none (after a (b ++ (item n c ∷ []))) ≡ thenO (choose t none (some (b ++ (item n c ∷ [])))) (λ x. after a x)
+      chosen : (t : Bool) → cond t none (after a (b ++ (item n c ∷ []))) ≡ thenO (cond t none (some (b ++ (item n c ∷ [])))) (λ x. after a x)
       chosen true = refl
       chosen false = refl
 
-      one : (p q r : Bool) → isSome (find n (a ++ b)) ≡ choose r true q
-          → thenO (guard p (a ++ b)) (λ x. choose (isSome (find n x)) none (some (x ++ (item n c ∷ []))))
-          ≡ choose q none (choose r none (thenO (guard p (a ++ b)) (λ x. some (x ++ (item n c ∷ [])))))
+      one : (p q r : Bool) → isSome (find n (a ++ b)) ≡ cond r true q
+          → thenO (guard p (a ++ b)) (λ x. cond (isSome (find n x)) none (some (x ++ (item n c ∷ []))))
+          ≡ cond q none (cond r none (thenO (guard p (a ++ b)) (λ x. some (x ++ (item n c ∷ [])))))
       one false true r e = refl
       one false false true e = refl
       one false false false e = refl
-      one true q r e = ap (λ t. choose t none (some ((a ++ b) ++ (item n c ∷ [])))) e ∙ last q r
+      one true q r e = ap (λ t. cond t none (some ((a ++ b) ++ (item n c ∷ [])))) e ∙ last q r
         where
-          last : (q r : Bool) → choose (choose r true q) none (some ((a ++ b) ++ (item n c ∷ []))) ≡ choose q none (choose r none (some ((a ++ b) ++ (item n c ∷ []))))
+          last : (q r : Bool) → cond (cond r true q) none (some ((a ++ b) ++ (item n c ∷ []))) ≡ cond q none (cond r none (some ((a ++ b) ++ (item n c ∷ []))))
           last true true = refl
           last true false = refl
           last false true = refl
@@ -144,10 +139,6 @@ items-both k fs gs =
     (fun-ext (λ a. ap (λ o. thenO o (λ x. items k gs x)) (sym (after-none (onceNumbers k) a)) ∙ items-after (onceNumbers k) k (once-numbers k) gs a []))
 
 -- every level ---------------------------------------------------------------------------------------------------------------
-
--- what fields say
-abbrev pub said : Kind → List Field → Option Tree
-said k fs = thenO (items k fs []) (λ is. openAll (λ k b. listed k b) is)
 
 listed-said : (k : Kind) (m : List ℕ) → listed k m ≡ thenO (fieldsOf m) (λ fs. said k fs)
 unfolding level

@@ -13,6 +13,7 @@ use Rattle.fields_schema.specs.declared.Kind.{Kind}
 use Rattle.fields_schema.specs.declared.Form.the-variants.{Nested}
 use Rattle.fields_schema.specs.declared.Rule.{Rule}
 use Rattle.fields_schema.specs.declared.Rule.the-variants.{Unlisted, Refused, Once, Single, Repeated}
+use Rattle.fields_schema.specs.EqualBut.{RawsBut, SubsBut}
 
 one-kind : (r : Rule) {j k : Kind} → Has (Nested j) r → Has (Nested k) r → j ≡ k
 one-kind Unlisted h g = absurd h
@@ -47,21 +48,16 @@ module _ (R : Replaces) where
   int-equal n (EqualBut.equal m u r) = int-equal n r
   int-equal n (EqualBut.subs m k' g q r) = int-equal n r
 
-  -- bytes that a look-up gives in both trees
-  pub data RawsBut (k : Kind) (n : ℕ) : Option (List ℕ) → Option (List ℕ) → Type 0 where
-    equal : (o : Option (List ℕ)) → RawsBut k n o o
-    replaced : (b b' : List ℕ) → R k n b b' → RawsBut k n (some b) (some b')
-
-  raws-later : (k : Kind) (n : ℕ) {o o' p p' : Option (List ℕ)} → RawsBut k n o o' → RawsBut k n p p' → RawsBut k n (later o p) (later o' p')
-  raws-later k n (equal none) h = h
-  raws-later k n (equal (some b)) h = RawsBut.equal (some b)
+  raws-later : (k : Kind) (n : ℕ) {o o' p p' : Option (List ℕ)} → RawsBut R k n o o' → RawsBut R k n p p' → RawsBut R k n (later o p) (later o' p')
+  raws-later k n (RawsBut.equal none) h = h
+  raws-later k n (RawsBut.equal (some b)) h = RawsBut.equal (some b)
   raws-later k n (RawsBut.replaced b b' w) h = RawsBut.replaced b b' w
 
-  raws-guard : (k : Kind) (n m : ℕ) (b b' : List ℕ) → R k m b b' → (t : Bool) → eqb n m ≡ t → RawsBut k n (guard t b) (guard t b')
+  raws-guard : (k : Kind) (n m : ℕ) (b b' : List ℕ) → R k m b b' → (t : Bool) → eqb n m ≡ t → RawsBut R k n (guard t b) (guard t b')
   raws-guard k n m b b' w true e = RawsBut.replaced b b' (subst (λ i. R k i b b') (sym (eqb-true n m e)) w)
   raws-guard k n m b b' w false e = RawsBut.equal none
 
-  pub raw-equal : (n : ℕ) {k : Kind} {t t' : Tree} → EqualBut R k t t' → RawsBut k n (rawAt n t) (rawAt n t')
+  pub raw-equal : (n : ℕ) {k : Kind} {t t' : Tree} → EqualBut R k t t' → RawsBut R k n (rawAt n t) (rawAt n t')
   raw-equal n (EqualBut.dones k) = RawsBut.equal none
   raw-equal n (EqualBut.ints m v r) = raw-equal n r
   raw-equal n {k} (EqualBut.raws m b r) = raws-later k n (raw-equal n r) (RawsBut.equal (guard (eqb n m) b))
@@ -70,30 +66,25 @@ module _ (R : Replaces) where
   raw-equal n (EqualBut.equal m u r) = raw-equal n r
   raw-equal n (EqualBut.subs m k' g q r) = raw-equal n r
 
-  -- messages that a look-up gives in both trees
-  pub data SubsBut (k : Kind) (n : ℕ) : Option Tree → Option Tree → Type 0 where
-    equal : (o : Option Tree) → SubsBut k n o o
-    subs : {t t' : Tree} (k' : Kind) → Has (Nested k') (ruleOf k n) → EqualBut R k' t t' → SubsBut k n (some t) (some t')
-
   -- of a field that is equal, or equal but for replaced bytes, and of the further ones
-  subs-equal : (k : Kind) (n : ℕ) (t : Bool) (u : Tree) {o o' : Option Tree} → SubsBut k n o o' → SubsBut k n (joinO t u o) (joinO t u o')
+  subs-equal : (k : Kind) (n : ℕ) (t : Bool) (u : Tree) {o o' : Option Tree} → SubsBut R k n o o' → SubsBut R k n (joinO t u o) (joinO t u o')
   subs-equal k n false u h = h
   subs-equal k n true u (SubsBut.equal o) = SubsBut.equal (joinO true u o)
   subs-equal k n true u (SubsBut.subs k' g q) = SubsBut.subs k' g (equal-but-join (equal-but-refl k' u) q)
 
-  subs-join : (k : Kind) (n : ℕ) (k' : Kind) → Has (Nested k') (ruleOf k n) → {u u' : Tree} → EqualBut R k' u u' → {o o' : Option Tree} → SubsBut k n o o'
-      → SubsBut k n (joinO true u o) (joinO true u' o')
+  subs-join : (k : Kind) (n : ℕ) (k' : Kind) → Has (Nested k') (ruleOf k n) → {u u' : Tree} → EqualBut R k' u u' → {o o' : Option Tree} → SubsBut R k n o o'
+      → SubsBut R k n (joinO true u o) (joinO true u' o')
   subs-join k n k' g q (SubsBut.equal none) = SubsBut.subs k' g q
   subs-join k n k' g q (SubsBut.equal (some t)) = SubsBut.subs k' g (equal-but-join q (equal-but-refl k' t))
   subs-join k n k' g q (SubsBut.subs {t = t} {t' = t'} j l r) =
       SubsBut.subs k' g (equal-but-join q (subst (λ (i : Kind). EqualBut R i t t') (one-kind (ruleOf k n) l g) r))
 
   subs-pick : (k : Kind) (n m : ℕ) (k' : Kind) → Has (Nested k') (ruleOf k m) → {u u' : Tree} → EqualBut R k' u u' → (t : Bool) → eqb n m ≡ t
-      → {o o' : Option Tree} → SubsBut k n o o' → SubsBut k n (joinO t u o) (joinO t u' o')
+      → {o o' : Option Tree} → SubsBut R k n o o' → SubsBut R k n (joinO t u o) (joinO t u' o')
   subs-pick k n m k' g q false e h = h
   subs-pick k n m k' g q true e h = subs-join k n k' (subst (λ i. Has (Nested k') (ruleOf k i)) (sym (eqb-true n m e)) g) q h
 
-  pub sub-equal : (n : ℕ) {k : Kind} {t t' : Tree} → EqualBut R k t t' → SubsBut k n (subAt n t) (subAt n t')
+  pub sub-equal : (n : ℕ) {k : Kind} {t t' : Tree} → EqualBut R k t t' → SubsBut R k n (subAt n t) (subAt n t')
   sub-equal n (EqualBut.dones k) = SubsBut.equal none
   sub-equal n (EqualBut.ints m v r) = sub-equal n r
   sub-equal n (EqualBut.raws m b r) = sub-equal n r

@@ -3,13 +3,14 @@ use Prim.Native.Nat.{ℕ, zero, suc, _+_, _*_, _/_, _%_, _^_, _≤_, _<_}
 use native.Mathlib.Omega.{arith}
 use mathlib.Core.Path.{_≡_, refl, sym, ap, _∙_}
 use mathlib.Core.List.{List, [], _∷_, _++_, append-assoc}
-use mathlib.Core.Bool.{Bool, true, false}
+use mathlib.Core.Bool.{Bool, true, false, cond}
 use lib.ListN.{length, take, drop, take-append-drop, length-append, length-take, drop-of-length-le}
 use lib.Seq.{take-all, drop-length}
 use lib.Dec.{ltb, leb, eqb}
 use borrow.Author.Tests.{le-leb, leb-true, lt-ltb, ltb-true}
-use Rattle.fields_wire.specs.Reader.{choose, Got, nothing, got, then, Reader, andThen, give, fail, only, part}
-use Rattle.fields_wire.specs.ReaderLaws.{never, then-got, choose-got, Steady, steady-part}
+use Rattle.fields_wire.specs.Reader.{Got, nothing, got, then, Reader, andThen, give, fail, only, part}
+use Rattle.fields_wire.specs.ReaderLaws.{never, then-got, choose-got, steady-part}
+use Rattle.fields_wire.specs.Steady.{Steady}
 use Rattle.fields_wire.specs.Wire.{endBelow, onTop, varintIn, varint, Value, vint, v64, vlen, v32, Field, field, valueOf, readField, Framed}
 use Rattle.fields_wire.specs.WireLaws.{onTop-got, steady-varint}
 use Rattle.fields_wire.specs.Varint.{varintBytes}
@@ -24,7 +25,7 @@ fronted-give {A} a = record { front = λ xs e. ([], cc, cc) }
 fronted-fail : {A : Type 0} → Fronted {A = A} fail
 fronted-fail = record { front = λ xs e. never e }
 
-fronted-choose : {A : Type 0} (t : Bool) {f g : Reader A} → Fronted f → Fronted g → Fronted (λ xs. choose t (f xs) (g xs))
+fronted-choose : {A : Type 0} (t : Bool) {f g : Reader A} → Fronted f → Fronted g → Fronted (λ xs. cond t (f xs) (g xs))
 fronted-choose true hf hg = record { front = hf .front }
 fronted-choose false hf hg = record { front = hg .front }
 
@@ -64,7 +65,7 @@ varint-front zero xs e = never e
 varint-front (suc k) [] e = never e
 varint-front (suc k) (b ∷ xs) {v} {r} e = go (ltb b 128) refl e (λ w e'. varint-front k xs {v = w} {r = r} e')
   where
-    go : (t : Bool) → ltb b 128 ≡ t → choose t (choose (ltb b (endBelow k)) (got b xs) nothing) (onTop b (varintIn k xs)) ≡ got v r
+    go : (t : Bool) → ltb b 128 ≡ t → cond t (cond (ltb b (endBelow k)) (got b xs) nothing) (onTop b (varintIn k xs)) ≡ got v r
         → ((w : ℕ) → varintIn k xs ≡ got w r → (x : List ℕ) × (xs ≡ x ++ r) × (varintIn k x ≡ got w []))
         → (x : List ℕ) × (b ∷ xs ≡ x ++ r) × (varintIn (suc k) x ≡ got v [])
     go true q h ih =
@@ -100,7 +101,7 @@ field-front xs e = let i = fronted-field .front xs e in (i .0, i .1, record { wh
 
 -- the number of a field is 1 to 2^29 - 1 -------------------------------------------------------------------------------
 
-choose-either : {A B : Type 0} (t : Bool) (o p : Got A) {a : A} {r : List ℕ} → choose t o p ≡ got a r → (o ≡ got a r → B) → (p ≡ got a r → B) → B
+choose-either : {A B : Type 0} (t : Bool) (o p : Got A) {a : A} {r : List ℕ} → cond t o p ≡ got a r → (o ≡ got a r → B) → (p ≡ got a r → B) → B
 choose-either true o p e f g = f e
 choose-either false o p e f g = g e
 

@@ -3,8 +3,7 @@ use Prim.Native.Nat.{ℕ}
 use mathlib.Core.Path.{_≡_, refl, sym, ap, _∙_}
 use mathlib.Core.List.{List, _++_}
 use mathlib.Core.Option.{Option, none, some}
-use mathlib.Core.Bool.{Bool, true, false}
-use Rattle.fields_wire.specs.Reader.{choose}
+use mathlib.Core.Bool.{Bool, true, false, cond}
 use Rattle.fields_wire.specs.Wire.{Value, Field, field, fieldsOf, consO, Framed}
 use Rattle.fields_wire.specs.WireLaws.{fields-put}
 use Rattle.fields_schema.specs.Rules.{strictOf, ruleOf}
@@ -26,14 +25,14 @@ pub items-front : (k : Kind) {f : Field} {x : List ℕ} (m : List ℕ) (acc : Li
 items-front k {f} m acc h = ap (λ o. itemsO k o acc) (fields-put m h) ∙ items-cons k f (fieldsOf m) acc
 
 -- an unlisted field leaves the items as they are, or refuses them in a strict kind
-pub step-unlisted : (k : Kind) (n : ℕ) (v : Value) (acc : List Item) → ruleOf k n ≡ Unlisted → step k (field n v) acc ≡ choose (strictOf k) none (some acc)
+pub step-unlisted : (k : Kind) (n : ℕ) (v : Value) (acc : List Item) → ruleOf k n ≡ Unlisted → step k (field n v) acc ≡ cond (strictOf k) none (some acc)
 step-unlisted k n v acc u = ap (λ r. byRule r (strictOf k) n v acc) u
 
 pub items-unlisted : (k : Kind) (n : ℕ) (v : Value) {x : List ℕ} (m : List ℕ) (acc : List Item) → Framed (field n v) x → ruleOf k n ≡ Unlisted
-    → itemsO k (fieldsOf (x ++ m)) acc ≡ choose (strictOf k) none (itemsO k (fieldsOf m) acc)
+    → itemsO k (fieldsOf (x ++ m)) acc ≡ cond (strictOf k) none (itemsO k (fieldsOf m) acc)
 items-unlisted k n v m acc h u =
     items-front k m acc h ∙ ap (λ o. thenO o (λ a. itemsO k (fieldsOf m) a)) (step-unlisted k n v acc u) ∙ go (strictOf k) (λ a. itemsO k (fieldsOf m) a)
   where
-    go : (t : Bool) (g : List Item → Option (List Item)) → thenO (choose t none (some acc)) g ≡ choose t none (g acc)
+    go : (t : Bool) (g : List Item → Option (List Item)) → thenO (cond t none (some acc)) g ≡ cond t none (g acc)
     go true g = refl
     go false g = refl

@@ -4,11 +4,10 @@ use native.Mathlib.Omega.{arith}
 use mathlib.Core.Path.{_≡_, refl, sym, ap, _∙_, subst, subst₂, ap₂}
 use mathlib.Core.List.{List, [], _∷_, _++_, append-nil, flatten}
 use mathlib.Core.Option.{Option, none, some}
-use mathlib.Core.Bool.{Bool, true, false}
+use mathlib.Core.Bool.{Bool, true, false, cond}
 use lib.ListN.{length, length-append}
 use lib.Dec.{leb, eqb}
 use borrow.Author.Tests.{eqb-true, eq-eqb}
-use Rattle.fields_wire.specs.Reader.{choose}
 use Rattle.fields_wire.specs.Wire.{Value, vint, v64, vlen, v32, Field, field, fieldsIn, fieldsOf}
 use Rattle.fields_wire.specs.WireLaws.{fields-put}
 use Rattle.fields_schema.specs.Rules.{strictOf, ruleOf}
@@ -16,9 +15,12 @@ use Rattle.fields_schema.specs.Tree.{mapO, thenO, guard, isSome, among, 
 use Rattle.fields_schema.specs.Tree.{Tree, done, int, raw, fix, sub, openAll, listed, join, subAt, treeIn, consIf, subsAt}
 use Rattle.fields_schema.specs.Concat.{onceNumbers, treeNumbers, apart, merged, noneTwice, onceEach, occurrences, fieldNumbers, Sends, isOnce}
 use Rattle.fields_schema.specs.PutIn.{Has, Holds}
-use Rattle.fields_schema.specs.Merged.{subs-join, joinAll, join-all, sub-all, isCons, sub-some}
-use Rattle.fields_schema.specs.OnceLaws.{once-numbers, among-append, both-there, numbers-join, once-join, plain-once, count, count-append, count-none, count-some, twice-count}
-use Rattle.fields_schema.specs.ConcatLaws.{itemNumbers, said, framed-said, opened-numbers, said-append, listed-append, listed-framed, first-decodes, rest-decodes}
+use Rattle.fields_schema.specs.MergedLaws.{subs-join, join-all, sub-all, sub-some}
+use Rattle.fields_schema.specs.Merged.{joinAll, isCons}
+use Rattle.fields_schema.specs.OnceLaws.{once-numbers, among-append, both-there, numbers-join, once-join, plain-once, count-append, count-none, count-some, twice-count}
+use Rattle.fields_schema.specs.Count.{count}
+use Rattle.fields_schema.specs.Said.{itemNumbers, said}
+use Rattle.fields_schema.specs.ConcatLaws.{framed-said, opened-numbers, said-append, listed-append, listed-framed, first-decodes, rest-decodes}
 use Rattle.fields_schema.specs.declared.Kind.{Kind}
 use Rattle.fields_schema.specs.OptionLaws.{nothing-some, then-some, guard-some}
 use Rattle.fields_schema.specs.declared.Form.{Form}
@@ -59,7 +61,7 @@ one-other k n m v e s = let i = one-said k m v s in ap (among n) (i .2) ∙ go (
   where
     go : {is : List Item} → OneItem (ruleOf k m) m is → among n (itemNumbers is) ≡ false
     go (skipped u) = refl
-    go (one c) = ap (λ t. choose t true false) e
+    go (one c) = ap (λ t. cond t true false) e
 
 -- one that may be sent only once has its own
 one-once : (k : Kind) (n : ℕ) (v : Value) {t : Tree} → among n (onceNumbers k) ≡ true → said k (field n v ∷ []) ≡ some t → among n (treeNumbers t) ≡ true
@@ -67,7 +69,7 @@ one-once k n v h s = let i = one-said k n v s in ap (among n) (i .2) ∙ go (i .
   where
     go : {is : List Item} → OneItem (ruleOf k n) n is → among n (itemNumbers is) ≡ true
     go (skipped u) = let z : _≡_ {A = ℕ} 0 1 = cc (h, once-numbers k n, ap isOnce u) in absurd (omega arith)
-    go (one c) = ap (λ t. choose t true false) (eq-eqb n n refl)
+    go (one c) = ap (λ t. cond t true false) (eq-eqb n n refl)
 
 abbrev held : Value → Option (List ℕ)
 held (vint v) = none
@@ -138,8 +140,8 @@ sent-read k n h fs e = by-fields k (λ fs t. among n (treeNumbers t) ≡ among n
     next : (f : Field) (fs : List Field) (t u : Tree) → said k (f ∷ []) ≡ some t → apart k t u ≡ true → among n (treeNumbers u) ≡ among n (fieldNumbers fs)
         → among n (treeNumbers (join t u)) ≡ among n (fieldNumbers (f ∷ fs))
     next (field m v) fs t u s d ih =
-        ap (among n) (numbers-join t u) ∙ among-append n (treeNumbers t) (treeNumbers u) ∙ ap (λ b. choose b true (among n (treeNumbers u))) (head m v t (eqb n m) refl s)
-        ∙ ap (choose (eqb n m) true) ih
+        ap (among n) (numbers-join t u) ∙ among-append n (treeNumbers t) (treeNumbers u) ∙ ap (λ b. cond b true (among n (treeNumbers u))) (head m v t (eqb n m) refl s)
+        ∙ ap (cond (eqb n m) true) ih
 
 -- ONCE: a number that may be sent only once, in both of two messages
 pub once-twice : (k : Kind) (n : ℕ) (x y : List ℕ) → among n (onceNumbers k) ≡ true → Sends n x → Sends n y → listed k (x ++ y) ≡ none
@@ -156,7 +158,7 @@ once-twice k n x y h p q =
 
 -- a message inside ----------------------------------------------------------------------------------------------------------------
 
-not-either : (p q : Bool) → choose p true q ≡ false → (p ≡ false) × (q ≡ false)
+not-either : (p q : Bool) → cond p true q ≡ false → (p ≡ false) × (q ≡ false)
 not-either true q e = let z : _≡_ {A = ℕ} 0 1 = cc in absurd (omega arith)
 not-either false q e = (refl, e)
 
@@ -230,14 +232,14 @@ said-once k fs e = by-fields k (λ fs t. onceEach k t ≡ true) refl next fs e
     one-each n (skipped u) = refl
     one-each n (one c) = go (among n (onceNumbers k))
       where
-        go : (b : Bool) → choose (choose b false false) false true ≡ true
+        go : (b : Bool) → cond (cond b false false) false true ≡ true
         go true = refl
         go false = refl
 
     next : (f : Field) (fs : List Field) (t u : Tree) → said k (f ∷ []) ≡ some t → apart k t u ≡ true → onceEach k u ≡ true → onceEach k (join t u) ≡ true
     next (field m v) fs t u s d ih =
         let i = one-said k m v s in
-        once-join k t u (ap (noneTwice (onceNumbers k)) (i .2) ∙ one-each m (i .1)) ∙ ap (λ b. choose b (onceEach k u) false) d ∙ ih
+        once-join k t u (ap (noneTwice (onceNumbers k)) (i .2) ∙ one-each m (i .1)) ∙ ap (λ b. cond b (onceEach k u) false) d ∙ ih
 
 pub listed-once : (k : Kind) (m : List ℕ) {t : Tree} → listed k m ≡ some t → onceEach k t ≡ true
 listed-once k m e = let i = listed-framed k m e in said-once k (i .0) (i .2)
@@ -246,7 +248,7 @@ listed-once k m e = let i = listed-framed k m e in said-once k (i .0) (i .2)
 merged-once : (k : Kind) (t u : Tree) → onceEach k t ≡ true → thenO (guard (onceEach k u) u) (λ u. merged k t u) ≡ guard (onceEach k (join t u)) (join t u)
 merged-once k t u h = go (onceEach k u) (apart k t u) refl ∙ ap (λ b. guard b (join t u)) (sym (once-join k t u h))
   where
-    go : (p q : Bool) → apart k t u ≡ q → thenO (guard p u) (λ u. merged k t u) ≡ guard (choose q p false) (join t u)
+    go : (p q : Bool) → apart k t u ≡ q → thenO (guard p u) (λ u. merged k t u) ≡ guard (cond q p false) (join t u)
     go true true e = ap (λ q. guard q (join t u)) e
     go true false e = ap (λ q. guard q (join t u)) e
     go false true e = refl
@@ -295,16 +297,16 @@ module _ (k : Kind) (n : ℕ) (k' : Kind) (m : List ℕ) {fs : List Field} {t : 
   part-sent = sub-some n t ∙ by-occurrences (λ bs us. isCons us ≡ isCons bs) refl (λ b bs u us e ih. refl)
 
   -- both in one
-  pub part-is : onceEach k' (treeIn (subAt n t)) ≡ true → subAt n t ≡ choose (isCons (occurrences n fs)) (listed k' (flatten (occurrences n fs))) none
+  pub part-is : onceEach k' (treeIn (subAt n t)) ≡ true → subAt n t ≡ cond (isCons (occurrences n fs)) (listed k' (flatten (occurrences n fs))) none
   part-is o = go (subAt n t) part-sent (part-concat ∙ ap (λ b. guard b (treeIn (subAt n t))) o)
     where
       go : (x : Option Tree) → isSome x ≡ isCons (occurrences n fs) → listed k' (flatten (occurrences n fs)) ≡ some (treeIn x)
-          → x ≡ choose (isCons (occurrences n fs)) (listed k' (flatten (occurrences n fs))) none
-      go none p q = ap (λ b. choose b (listed k' (flatten (occurrences n fs))) none) p
-      go (some u) p q = sym q ∙ ap (λ b. choose b (listed k' (flatten (occurrences n fs))) none) p
+          → x ≡ cond (isCons (occurrences n fs)) (listed k' (flatten (occurrences n fs))) none
+      go none p q = ap (λ b. cond b (listed k' (flatten (occurrences n fs))) none) p
+      go (some u) p q = sym q ∙ ap (λ b. cond b (listed k' (flatten (occurrences n fs))) none) p
 
   -- in a kind without numbers that may be sent only once
-  pub part-plain : onceNumbers k' ≡ [] → subAt n t ≡ choose (isCons (occurrences n fs)) (listed k' (flatten (occurrences n fs))) none
+  pub part-plain : onceNumbers k' ≡ [] → subAt n t ≡ cond (isCons (occurrences n fs)) (listed k' (flatten (occurrences n fs))) none
   part-plain o = part-is (plain-once k' (treeIn (subAt n t)) o)
 
   -- where k' has one number that may be sent only once, and it holds messages: they are counted

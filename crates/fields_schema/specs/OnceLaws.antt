@@ -3,10 +3,9 @@ use Prim.Native.Nat.{ℕ, _+_, _≤_}
 use native.Mathlib.Omega.{arith}
 use mathlib.Core.Path.{_≡_, refl, sym, ap, _∙_}
 use mathlib.Core.List.{List, [], _∷_, _++_}
-use mathlib.Core.Bool.{Bool, true, false, not}
+use mathlib.Core.Bool.{Bool, true, false, not, cond}
 use lib.Dec.{leb, eqb}
 use borrow.Author.Tests.{leb-true, leb-false, eqb-true, eqb-false, le-leb, lt-leb, eq-eqb, ne-eqb}
-use Rattle.fields_wire.specs.Reader.{choose}
 use Rattle.fields_schema.specs.Rules.{Table, end, row, look, tableOf, ruleOf}
 use Rattle.fields_schema.specs.Tree.{among, Tree, done, int, raw, fix, sub, join, consIf}
 use Rattle.fields_schema.specs.Concat.{onceNumbers, treeNumbers, inBoth, noneInBoth, apart, noneTwice, onceEach, without, isOnce, onceRow, onceRows}
@@ -15,8 +14,7 @@ use Rattle.fields_schema.specs.declared.Kind.the-variants.{Message, Hmac
 use Rattle.fields_schema.specs.declared.Form.{Form}
 use Rattle.fields_schema.specs.declared.Rule.{Rule}
 use Rattle.fields_schema.specs.declared.Rule.the-variants.{Unlisted, Refused, Once, Single, Repeated}
-
--- which rows may be sent only once ---------------------------------------------------------------------------------------
+use Rattle.fields_schema.specs.Count.{count}
 
 -- computed: security of a body, the singular fields of an ACL and of a scope, and no other row
 pub once-rows : (k : Kind) → onceRows (tableOf k) ≡ onceNumbers k
@@ -49,46 +47,46 @@ eqb-swap a b = go (eqb a b) refl
     go true e = sym (eq-eqb b a (sym (eqb-true a b e)))
     go false e = sym (ne-eqb b a (λ q. eqb-false a b e (sym q)))
 
-among-without : (n m : ℕ) (ms : List ℕ) → among n (without m ms) ≡ choose (eqb n m) false (among n ms)
+among-without : (n m : ℕ) (ms : List ℕ) → among n (without m ms) ≡ cond (eqb n m) false (among n ms)
 among-without n m [] = go (eqb n m)
   where
-    go : (t : Bool) → false ≡ choose t false false
+    go : (t : Bool) → false ≡ cond t false false
     go true = refl
     go false = refl
 among-without n m (x ∷ ms) = go (eqb m x) refl (among-without n m ms)
   where
-    equal : (t : Bool) → choose t false (among n ms) ≡ choose t false (choose t true (among n ms))
+    equal : (t : Bool) → cond t false (among n ms) ≡ cond t false (cond t true (among n ms))
     equal true = refl
     equal false = refl
 
-    other : (t : Bool) → eqb n m ≡ t → eqb m x ≡ false → choose (eqb n x) true (choose t false (among n ms)) ≡ choose t false (choose (eqb n x) true (among n ms))
-    other true e q = ap (λ t. choose t true false) (ap (λ n. eqb n x) (eqb-true n m e) ∙ q)
+    other : (t : Bool) → eqb n m ≡ t → eqb m x ≡ false → cond (eqb n x) true (cond t false (among n ms)) ≡ cond t false (cond (eqb n x) true (among n ms))
+    other true e q = ap (λ t. cond t true false) (ap (λ n. eqb n x) (eqb-true n m e) ∙ q)
     other false e q = refl
 
-    go : (p : Bool) → eqb m x ≡ p → among n (without m ms) ≡ choose (eqb n m) false (among n ms)
-        → among n (consIf (not p) x (without m ms)) ≡ choose (eqb n m) false (choose (eqb n x) true (among n ms))
-    go true q ih = ih ∙ equal (eqb n m) ∙ ap (λ x. choose (eqb n m) false (choose (eqb n x) true (among n ms))) (eqb-true m x q)
-    go false q ih = ap (choose (eqb n x) true) ih ∙ other (eqb n m) refl q
+    go : (p : Bool) → eqb m x ≡ p → among n (without m ms) ≡ cond (eqb n m) false (among n ms)
+        → among n (consIf (not p) x (without m ms)) ≡ cond (eqb n m) false (cond (eqb n x) true (among n ms))
+    go true q ih = ih ∙ equal (eqb n m) ∙ ap (λ x. cond (eqb n m) false (cond (eqb n x) true (among n ms))) (eqb-true m x q)
+    go false q ih = ap (cond (eqb n x) true) ih ∙ other (eqb n m) refl q
 
 look-once : (n : ℕ) (t : Table) → isOnce (look n t) ≡ among n (onceRows t)
 look-once n end = refl
 look-once n (row m r t) = by r (look-once n t)
   where
-    other : (r : Rule) (b : Bool) → isOnce r ≡ false → isOnce (choose b r (look n t)) ≡ choose b false (isOnce (look n t))
+    other : (r : Rule) (b : Bool) → isOnce r ≡ false → isOnce (cond b r (look n t)) ≡ cond b false (isOnce (look n t))
     other r true e = e
     other r false e = refl
 
-    this : (f : Form) (b : Bool) → isOnce (choose b (Once f) (look n t)) ≡ choose b true (isOnce (look n t))
+    this : (f : Form) (b : Bool) → isOnce (cond b (Once f) (look n t)) ≡ cond b true (isOnce (look n t))
     this f true = refl
     this f false = refl
 
-    passed : (r : Rule) → isOnce r ≡ false → isOnce (look n t) ≡ among n (onceRows t) → isOnce (choose (eqb n m) r (look n t)) ≡ among n (without m (onceRows t))
-    passed r e ih = other r (eqb n m) e ∙ ap (choose (eqb n m) false) ih ∙ sym (among-without n m (onceRows t))
+    passed : (r : Rule) → isOnce r ≡ false → isOnce (look n t) ≡ among n (onceRows t) → isOnce (cond (eqb n m) r (look n t)) ≡ among n (without m (onceRows t))
+    passed r e ih = other r (eqb n m) e ∙ ap (cond (eqb n m) false) ih ∙ sym (among-without n m (onceRows t))
 
-    by : (r : Rule) → isOnce (look n t) ≡ among n (onceRows t) → isOnce (choose (eqb n m) r (look n t)) ≡ among n (onceRow r m (onceRows t))
+    by : (r : Rule) → isOnce (look n t) ≡ among n (onceRows t) → isOnce (cond (eqb n m) r (look n t)) ≡ among n (onceRow r m (onceRows t))
     by Unlisted ih = passed Unlisted refl ih
     by Refused ih = passed Refused refl ih
-    by (Once f) ih = this f (eqb n m) ∙ ap (choose (eqb n m) true) ih
+    by (Once f) ih = this f (eqb n m) ∙ ap (cond (eqb n m) true) ih
     by (Single f) ih = passed (Single f) refl ih
     by (Repeated f) ih = passed (Repeated f) refl ih
 
@@ -98,17 +96,17 @@ once-numbers k n = look-once n (tableOf k) ∙ ap (among n) (once-rows k)
 
 -- numbers in both of two lists ---------------------------------------------------------------------------------------------
 
-pub among-append : (n : ℕ) (ms ns : List ℕ) → among n (ms ++ ns) ≡ choose (among n ms) true (among n ns)
+pub among-append : (n : ℕ) (ms ns : List ℕ) → among n (ms ++ ns) ≡ cond (among n ms) true (among n ns)
 among-append n [] ns = refl
 among-append n (m ∷ ms) ns = go (eqb n m) (among-append n ms ns)
   where
-    go : (t : Bool) → among n (ms ++ ns) ≡ choose (among n ms) true (among n ns)
-        → choose t true (among n (ms ++ ns)) ≡ choose (choose t true (among n ms)) true (among n ns)
+    go : (t : Bool) → among n (ms ++ ns) ≡ cond (among n ms) true (among n ns)
+        → cond t true (among n (ms ++ ns)) ≡ cond (cond t true (among n ms)) true (among n ns)
     go true e = refl
     go false e = e
 
 -- a conjunction of two refusals
-swapped : (p q z : Bool) → choose p false (choose q false z) ≡ choose q false (choose p false z)
+swapped : (p q z : Bool) → cond p false (cond q false z) ≡ cond q false (cond p false z)
 swapped true true z = refl
 swapped true false z = refl
 swapped false q z = refl
@@ -117,50 +115,50 @@ pub none-in-both : (os ms : List ℕ) → noneInBoth os ms [] ≡ true
 none-in-both os [] = refl
 none-in-both os (m ∷ ms) = go (among m os) (none-in-both os ms)
   where
-    go : (t : Bool) → noneInBoth os ms [] ≡ true → choose (choose t false false) false (noneInBoth os ms []) ≡ true
+    go : (t : Bool) → noneInBoth os ms [] ≡ true → cond (cond t false false) false (noneInBoth os ms []) ≡ true
     go true e = e
     go false e = e
 
 -- one number more at the end
-pub both-last : (os ms ns : List ℕ) (n : ℕ) → noneInBoth os ms (ns ++ (n ∷ [])) ≡ choose (inBoth n os ms) false (noneInBoth os ms ns)
+pub both-last : (os ms ns : List ℕ) (n : ℕ) → noneInBoth os ms (ns ++ (n ∷ [])) ≡ cond (inBoth n os ms) false (noneInBoth os ms ns)
 both-last os [] ns n = go (among n os)
   where
-    go : (t : Bool) → true ≡ choose (choose t false false) false true
+    go : (t : Bool) → true ≡ cond (cond t false false) false true
     go true = refl
     go false = refl
-both-last os (m ∷ ms) ns n = ap (λ b. choose (inBoth m os (ns ++ (n ∷ []))) false b) (both-last os ms ns n) ∙ by (eqb n m) refl (noneInBoth os ms ns)
+both-last os (m ∷ ms) ns n = ap (λ b. cond (inBoth m os (ns ++ (n ∷ []))) false b) (both-last os ms ns n) ∙ by (eqb n m) refl (noneInBoth os ms ns)
   where
-    equal : (a x y z : Bool) → choose (choose a (choose x true true) false) false (choose (choose a y false) false z) ≡ choose (choose a true false) false (choose (choose a x false) false z)
+    equal : (a x y z : Bool) → cond (cond a (cond x true true) false) false (cond (cond a y false) false z) ≡ cond (cond a true false) false (cond (cond a x false) false z)
     equal true true y z = refl
     equal true false y z = refl
     equal false x y z = refl
 
-    other : (a x b y z : Bool) → choose (choose a (choose x true false) false) false (choose (choose b y false) false z) ≡ choose (choose b y false) false (choose (choose a x false) false z)
-    other a true b y z = swapped (choose a true false) (choose b y false) z
-    other a false b y z = swapped (choose a false false) (choose b y false) z
+    other : (a x b y z : Bool) → cond (cond a (cond x true false) false) false (cond (cond b y false) false z) ≡ cond (cond b y false) false (cond (cond a x false) false z)
+    other a true b y z = swapped (cond a true false) (cond b y false) z
+    other a false b y z = swapped (cond a false false) (cond b y false) z
 
     by : (t : Bool) → eqb n m ≡ t → (z : Bool)
-        → choose (inBoth m os (ns ++ (n ∷ []))) false (choose (inBoth n os ms) false z) ≡ choose (choose (among n os) (choose t true (among n ms)) false) false (choose (inBoth m os ns) false z)
+        → cond (inBoth m os (ns ++ (n ∷ []))) false (cond (inBoth n os ms) false z) ≡ cond (cond (among n os) (cond t true (among n ms)) false) false (cond (inBoth m os ns) false z)
     by true e z =
         let q : n ≡ m = eqb-true n m e in
-        ap (λ x. choose (choose (among m os) x false) false (choose (inBoth n os ms) false z)) (among-append m ns (n ∷ []) ∙ ap (λ t. choose (among m ns) true (choose t true false)) (eqb-swap m n ∙ e))
-        ∙ ap (λ (n : ℕ). choose (choose (among m os) (choose (among m ns) true true) false) false (choose (inBoth n os ms) false z)) q
+        ap (λ x. cond (cond (among m os) x false) false (cond (inBoth n os ms) false z)) (among-append m ns (n ∷ []) ∙ ap (λ t. cond (among m ns) true (cond t true false)) (eqb-swap m n ∙ e))
+        ∙ ap (λ (n : ℕ). cond (cond (among m os) (cond (among m ns) true true) false) false (cond (inBoth n os ms) false z)) q
         ∙ equal (among m os) (among m ns) (among m ms) z
-        ∙ ap (λ (n : ℕ). choose (choose (among n os) true false) false (choose (inBoth m os ns) false z)) (sym q)
+        ∙ ap (λ (n : ℕ). cond (cond (among n os) true false) false (cond (inBoth m os ns) false z)) (sym q)
     by false e z =
-        ap (λ x. choose (choose (among m os) x false) false (choose (inBoth n os ms) false z)) (among-append m ns (n ∷ []) ∙ ap (λ t. choose (among m ns) true (choose t true false)) (eqb-swap m n ∙ e))
+        ap (λ x. cond (cond (among m os) x false) false (cond (inBoth n os ms) false z)) (among-append m ns (n ∷ []) ∙ ap (λ t. cond (among m ns) true (cond t true false)) (eqb-swap m n ∙ e))
         ∙ other (among m os) (among m ns) (among n os) (among n ms) z
 
 -- none twice in two lists, one after the other
-twice-append : (os ms ns : List ℕ) → noneTwice os (ms ++ ns) ≡ choose (noneTwice os ms) (choose (noneInBoth os ms ns) (noneTwice os ns) false) false
+twice-append : (os ms ns : List ℕ) → noneTwice os (ms ++ ns) ≡ cond (noneTwice os ms) (cond (noneInBoth os ms ns) (noneTwice os ns) false) false
 twice-append os [] ns = refl
 twice-append os (m ∷ ms) ns =
-    ap (λ t. choose (choose (among m os) t false) false (noneTwice os (ms ++ ns))) (among-append m ms ns)
-    ∙ ap (choose (choose (among m os) (choose (among m ms) true (among m ns)) false) false) (twice-append os ms ns)
+    ap (λ t. cond (cond (among m os) t false) false (noneTwice os (ms ++ ns))) (among-append m ms ns)
+    ∙ ap (cond (cond (among m os) (cond (among m ms) true (among m ns)) false) false) (twice-append os ms ns)
     ∙ go (among m os) (among m ms) (among m ns) (noneTwice os ms) (noneInBoth os ms ns) (noneTwice os ns)
   where
-    go : (o p q x y z : Bool) → choose (choose o (choose p true q) false) false (choose x (choose y z false) false)
-        ≡ choose (choose (choose o p false) false x) (choose (choose (choose o q false) false y) z false) false
+    go : (o p q x y z : Bool) → cond (cond o (cond p true q) false) false (cond x (cond y z false) false)
+        ≡ cond (cond (cond o p false) false x) (cond (cond (cond o q false) false y) z false) false
     go true true q x y z = refl
     go true false true true y z = refl
     go true false true false y z = refl
@@ -172,14 +170,14 @@ pub both-there : (n : ℕ) (os ms ns : List ℕ) → among n os ≡ true → amo
 both-there n os [] ns o p q = let z : _≡_ {A = ℕ} 0 1 = cc in absurd (omega arith)
 both-there n os (m ∷ ms) ns o p q = go (eqb n m) refl p (λ r. both-there n os ms ns o r q)
   where
-    all : (t : Bool) → choose t false false ≡ false
+    all : (t : Bool) → cond t false false ≡ false
     all true = refl
     all false = refl
 
-    go : (t : Bool) → eqb n m ≡ t → choose t true (among n ms) ≡ true → (among n ms ≡ true → noneInBoth os ms ns ≡ false)
-        → choose (inBoth m os ns) false (noneInBoth os ms ns) ≡ false
+    go : (t : Bool) → eqb n m ≡ t → cond t true (among n ms) ≡ true → (among n ms ≡ true → noneInBoth os ms ns ≡ false)
+        → cond (inBoth m os ns) false (noneInBoth os ms ns) ≡ false
     go true e r ih = let h : n ≡ m = eqb-true n m e in rw (← h, o, q) refl
-    go false e r ih = ap (choose (inBoth m os ns) false) (ih r) ∙ all (inBoth m os ns)
+    go false e r ih = ap (cond (inBoth m os ns) false) (ih r) ∙ all (inBoth m os ns)
 
 -- the same of messages -------------------------------------------------------------------------------------------------------
 
@@ -190,10 +188,10 @@ numbers-join (raw n b t) u = ap (λ l. n ∷ l) (numbers-join t u)
 numbers-join (fix n b t) u = ap (λ l. n ∷ l) (numbers-join t u)
 numbers-join (sub n s t) u = ap (λ l. n ∷ l) (numbers-join t u)
 
-pub once-join : (k : Kind) (t u : Tree) → onceEach k t ≡ true → onceEach k (join t u) ≡ choose (apart k t u) (onceEach k u) false
+pub once-join : (k : Kind) (t u : Tree) → onceEach k t ≡ true → onceEach k (join t u) ≡ cond (apart k t u) (onceEach k u) false
 once-join k t u h =
     ap (noneTwice (onceNumbers k)) (numbers-join t u) ∙ twice-append (onceNumbers k) (treeNumbers t) (treeNumbers u)
-    ∙ ap (λ b. choose b (choose (apart k t u) (onceEach k u) false) false) h
+    ∙ ap (λ b. cond b (cond (apart k t u) (onceEach k u) false) false) h
 
 -- a kind without such numbers
 pub plain-apart : (k : Kind) (t u : Tree) → onceNumbers k ≡ [] → apart k t u ≡ true
@@ -210,11 +208,6 @@ plain-once k t h = ap (λ os. noneTwice os (treeNumbers t)) h ∙ go (treeNumber
     go [] = refl
     go (n ∷ ns) = go ns
 
--- a kind with one such number: how often it is there
-abbrev pub count : ℕ → List ℕ → ℕ
-count n [] = 0
-count n (m ∷ ms) = choose (eqb n m) 1 0 + count n ms
-
 pub count-append : (n : ℕ) (ms ns : List ℕ) → count n (ms ++ ns) ≡ count n ms + count n ns
 count-append n [] ns = omega arith
 count-append n (m ∷ ms) ns = omega (arith, count-append n ms ns)
@@ -223,7 +216,7 @@ among-count : (n : ℕ) (ns : List ℕ) → among n ns ≡ leb 1 (count n ns)
 among-count n [] = refl
 among-count n (m ∷ ns) = go (eqb n m) (among-count n ns)
   where
-    go : (t : Bool) → among n ns ≡ leb 1 (count n ns) → choose t true (among n ns) ≡ leb 1 (choose t 1 0 + count n ns)
+    go : (t : Bool) → among n ns ≡ leb 1 (count n ns) → cond t true (among n ns) ≡ leb 1 (cond t 1 0 + count n ns)
     go true e = sym (le-leb 1 (1 + count n ns) (omega arith))
     go false e = let z : count n ns ≡ 0 + count n ns = omega arith in e ∙ ap (leb 1) z
 
@@ -236,15 +229,15 @@ count-some n ns e = leb-true 1 (count n ns) (sym (among-count n ns) ∙ e)
 pub twice-count : (n : ℕ) (ns : List ℕ) → noneTwice (n ∷ []) ns ≡ leb (count n ns) 1
 twice-count n [] = refl
 twice-count n (m ∷ ns) =
-    ap (λ t. choose (choose (choose t true false) (among m ns) false) false (noneTwice (n ∷ []) ns)) (eqb-swap m n) ∙ go (eqb n m) refl (twice-count n ns)
+    ap (λ t. cond (cond (cond t true false) (among m ns) false) false (noneTwice (n ∷ []) ns)) (eqb-swap m n) ∙ go (eqb n m) refl (twice-count n ns)
   where
-    last : (c : ℕ) (t : Bool) → leb 1 c ≡ t → choose t false (leb c 1) ≡ leb (1 + c) 1
+    last : (c : ℕ) (t : Bool) → leb 1 c ≡ t → cond t false (leb c 1) ≡ leb (1 + c) 1
     last c true q = sym (lt-leb (1 + c) 1 (omega (arith, leb-true 1 c q)))
     last c false q = le-leb c 1 (omega (arith, leb-false 1 c q)) ∙ sym (le-leb (1 + c) 1 (omega (arith, leb-false 1 c q)))
 
     go : (t : Bool) → eqb n m ≡ t → noneTwice (n ∷ []) ns ≡ leb (count n ns) 1
-        → choose (choose (choose t true false) (among m ns) false) false (noneTwice (n ∷ []) ns) ≡ leb (choose t 1 0 + count n ns) 1
+        → cond (cond (cond t true false) (among m ns) false) false (noneTwice (n ∷ []) ns) ≡ leb (cond t 1 0 + count n ns) 1
     go true q e =
-        ap (λ m. choose (among m ns) false (noneTwice (n ∷ []) ns)) (sym (eqb-true n m q)) ∙ ap (λ b. choose b false (noneTwice (n ∷ []) ns)) (among-count n ns)
-        ∙ ap (choose (leb 1 (count n ns)) false) e ∙ last (count n ns) (leb 1 (count n ns)) refl
+        ap (λ m. cond (among m ns) false (noneTwice (n ∷ []) ns)) (sym (eqb-true n m q)) ∙ ap (λ b. cond b false (noneTwice (n ∷ []) ns)) (among-count n ns)
+        ∙ ap (cond (leb 1 (count n ns)) false) e ∙ last (count n ns) (leb 1 (count n ns)) refl
     go false q e = let z : count n ns ≡ 0 + count n ns = omega arith in e ∙ ap (λ c. leb c 1) z

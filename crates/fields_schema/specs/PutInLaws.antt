@@ -4,9 +4,8 @@ use native.Mathlib.Omega.{arith}
 use mathlib.Core.Path.{_≡_, refl, sym, ap, _∙_, subst, subst₂, ap₂}
 use mathlib.Core.List.{List, [], _∷_, _++_}
 use mathlib.Core.Option.{Option, none, some}
-use mathlib.Core.Bool.{Bool, true, false}
+use mathlib.Core.Bool.{Bool, true, false, cond}
 use lib.Dec.{eqb}
-use Rattle.fields_wire.specs.Reader.{choose}
 use Rattle.fields_wire.specs.Wire.{Value, vlen, Field, field, fieldsOf, Framed}
 use Rattle.fields_schema.specs.Rules.{strictOf, ruleOf}
 use Rattle.fields_schema.specs.Tree.{mapO, thenO, Content, cInt, cRaw, cFix, cMsg, Item, item, ofBytes, decode, find, isSome, add, byRule, step, items, itemsO, level}
@@ -21,7 +20,7 @@ use Rattle.fields_schema.specs.declared.Rule.{Rule}
 use Rattle.fields_schema.specs.declared.Rule.the-variants.{Unlisted, Refused, Once, Single, Repeated}
 
 -- the security part is where the table is strict
-pub security-strict : (k : Kind) → inSecurity k ≡ choose (strictOf k) 1 0
+pub security-strict : (k : Kind) → inSecurity k ≡ cond (strictOf k) 1 0
 security-strict Message = refl
 security-strict HmacAuth = refl
 security-strict Command = refl
@@ -44,7 +43,7 @@ security-strict Capacity = refl
 security-strict Limits = refl
 security-strict Status = refl
 
-none-strict : (t : Bool) (c : ℕ) → choose t 1 0 + c ≡ 0 → (t ≡ false) × (c ≡ 0)
+none-strict : (t : Bool) (c : ℕ) → cond t 1 0 + c ≡ 0 → (t ≡ false) × (c ≡ 0)
 none-strict true c e = absurd (omega arith)
 none-strict false c e = (refl, omega arith)
 
@@ -121,7 +120,7 @@ module _ (R : Replaces) where
   alike-find k n nil = refl
   alike-find k n (cons {is = is} {js = js} {c = c} {c' = c'} m g r) = go (eqb n m) (alike-find k n r)
     where
-      go : (t : Bool) → isSome (find n is) ≡ isSome (find n js) → isSome (choose t (some c) (find n is)) ≡ isSome (choose t (some c') (find n js))
+      go : (t : Bool) → isSome (find n is) ≡ isSome (find n js) → isSome (cond t (some c) (find n is)) ≡ isSome (cond t (some c') (find n js))
       go true e = refl
       go false e = e
 
@@ -130,7 +129,7 @@ module _ (R : Replaces) where
   alike-add k n h LikeO.nones = AlikeO.nones
   alike-add k n h (LikeO.somes g) = AlikeO.somes (alike-snoc k n g h)
 
-  alike-unless : (k : Kind) (t : Bool) {o o' : Option (List Item)} → AlikeO k o o' → AlikeO k (choose t none o) (choose t none o')
+  alike-unless : (k : Kind) (t : Bool) {o o' : Option (List Item)} → AlikeO k o o' → AlikeO k (cond t none o) (cond t none o')
   alike-unless k true h = AlikeO.nones
   alike-unless k false h = h
 
@@ -197,7 +196,7 @@ module _ (R : Replaces) where
   put-same (PutIn.put {k = k} {c = c} {m = m} {m' = m'} n v h u r) z acc acc' a =
       let i = none-strict (strictOf k) c (rw security-strict at z) in
       subst (λ o. AlikeO k (itemsO k (fieldsOf m) acc) o)
-      (sym (items-unlisted k n v m' acc' h u ∙ ap (λ t. choose t none (itemsO k (fieldsOf m') acc')) (i .0))) (put-same r (i .1) acc acc' a)
+      (sym (items-unlisted k n v m' acc' h u ∙ ap (λ t. cond t none (itemsO k (fieldsOf m') acc')) (i .0))) (put-same r (i .1) acc acc' a)
   put-same (PutIn.keep {k = k} {m = m} {m' = m'} f h h' r) z acc acc' a =
       same-front k m m' h h' (λ acc acc' a. alike-step k f a) (λ p q b. put-same r z p q b) acc acc' a
   put-same (PutIn.inside {k = k} {c = c} {d = d} {m = m} {m' = m'} n k' b b' h h' g i r) z acc acc' a =

@@ -2,9 +2,8 @@
 -- GetLog by document 02, CR 1, its numbers by document 003.
 use Prim.Native.Nat.{ℕ}
 use mathlib.Core.List.{List, [], _∷_}
-use mathlib.Core.Bool.{Bool, true, false}
+use mathlib.Core.Bool.{Bool, true, false, cond}
 use lib.Dec.{eqb}
-use Rattle.fields_wire.specs.Reader.{choose}
 use Rattle.fields_schema.specs.declared.Kind.{Kind}
 use Rattle.fields_schema.specs.declared.Kind.the-variants.{Message, HmacAuth, Command, Header, Body, KeyValue, Range, Setup, GetLog, Security, Acl, Scope, ReplyCommand, ReplyBody, ReplyRange, ReplyGetLog, Utilization, Temperature, Capacity, Limits, Status}
 use Rattle.fields_schema.specs.declared.Names.{Names}
@@ -102,7 +101,7 @@ tableOf Status = single 1 (Named StatusCode) end
 
 abbrev pub look : ℕ → Table → Rule
 look n end = Unlisted
-look n (row m r t) = choose (eqb n m) r (look n t)
+look n (row m r t) = cond (eqb n m) r (look n t)
 
 -- what a number means in a kind
 abbrev pub ruleOf : Kind → ℕ → Rule

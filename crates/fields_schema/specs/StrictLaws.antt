@@ -4,8 +4,7 @@ use native.Mathlib.Omega.{arith}
 use mathlib.Core.Path.{_≡_, refl, sym, ap, _∙_, subst}
 use mathlib.Core.List.{List, [], _∷_, _++_}
 use mathlib.Core.Option.{Option, none, some}
-use mathlib.Core.Bool.{Bool, true, false}
-use Rattle.fields_wire.specs.Reader.{choose}
+use mathlib.Core.Bool.{Bool, true, false, cond}
 use Rattle.fields_wire.specs.Wire.{Value, vlen, Field, field, fieldsOf, Framed}
 use Rattle.fields_schema.specs.Rules.{strictOf, ruleOf}
 use Rattle.fields_schema.specs.Tree.{mapO, thenO, Content, cMsg, Item, item, ofBytes, decode, find, isSome, add, byRule, step, items, itemsO, level}
@@ -51,7 +50,7 @@ badO-then : (d : ℕ) (o : Option (List Item)) (g : List Item → Option (List I
 badO-then d none g h f = tt
 badO-then d (some is) g h f = f is h
 
-bad-unless : (d : ℕ) (t : Bool) (o : Option (List Item)) → BadO d o → BadO d (choose t none o)
+bad-unless : (d : ℕ) (t : Bool) (o : Option (List Item)) → BadO d o → BadO d (cond t none o)
 bad-unless d true o h = tt
 bad-unless d false o h = h
 
@@ -114,9 +113,9 @@ lost-inside k n k' b m h g l d acc =
 
 -- an unlisted field, in a strict kind or before a message that is lost
 lost-put : (k : Kind) (t : Bool) (c n : ℕ) (v : Value) {x : List ℕ} (m : List ℕ) → strictOf k ≡ t → Framed (field n v) x → ruleOf k n ≡ Unlisted
-    → 1 ≤ choose t 1 0 + c → (1 ≤ c → Lost k m) → Lost k (x ++ m)
+    → 1 ≤ cond t 1 0 + c → (1 ≤ c → Lost k m) → Lost k (x ++ m)
 lost-put k true c n v m st h u p l d acc =
-    subst (λ o. BadO d o) (sym (items-unlisted k n v m acc h u ∙ ap (λ t. choose t none (itemsO k (fieldsOf m) acc)) st)) tt
+    subst (λ o. BadO d o) (sym (items-unlisted k n v m acc h u ∙ ap (λ t. cond t none (itemsO k (fieldsOf m) acc)) st)) tt
 lost-put k false c n v m st h u p l d acc = lost-later k (field n v) m h (l (omega arith)) d acc
 
 either : (c d : ℕ) {A : Type 0} → 1 ≤ c + d → (1 ≤ c → A) → (1 ≤ d → A) → A

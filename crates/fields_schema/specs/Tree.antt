@@ -2,9 +2,8 @@
 use Prim.Native.Nat.{ℕ, zero, suc, _-_, _^_}
 use mathlib.Core.List.{List, [], _∷_, _++_}
 use mathlib.Core.Option.{Option, none, some}
-use mathlib.Core.Bool.{Bool, true, false}
+use mathlib.Core.Bool.{Bool, true, false, cond}
 use lib.Dec.{ltb, leb, eqb}
-use Rattle.fields_wire.specs.Reader.{choose}
 use Rattle.fields_wire.specs.Wire.{Value, vint, v64, vlen, v32, Field, field, fieldsOf}
 use Rattle.fields_schema.specs.Rules.{namesOf, strictOf, ruleOf}
 use Rattle.fields_schema.specs.declared.Kind.{Kind}
@@ -31,7 +30,7 @@ isSome (some a) = true
 
 abbrev pub among : ℕ → List ℕ → Bool
 among n [] = false
-among n (m ∷ ms) = choose (eqb n m) true (among n ms)
+among n (m ∷ ms) = cond (eqb n m) true (among n ms)
 
 -- one level --------------------------------------------------------------------
 
@@ -47,14 +46,14 @@ pub data Item : Type 0 where
 
 -- a word that is from -2^31 to 2^31 - 1 in two's complement
 abbrev pub isInt32 : ℕ → Bool
-isInt32 v = choose (ltb v (2 ^ 31)) true (leb (2 ^ 64 - 2 ^ 31) v)
+isInt32 v = cond (ltb v (2 ^ 31)) true (leb (2 ^ 64 - 2 ^ 31) v)
 
 -- "An int32 or enum outside -2^31 to 2^31-1 is refused; a bool is true if not zero"; "Enum values not named here refuse the command"
 abbrev pub ofInt : Form → ℕ → Option Content
 ofInt Int64 v = some (cInt v)
 ofInt Int32 v = guard (isInt32 v) (cInt v)
 ofInt (Named e) v = guard (among v (namesOf e)) (cInt v)
-ofInt Flag v = some (cInt (choose (eqb v 0) 0 1))
+ofInt Flag v = some (cInt (cond (eqb v 0) 0 1))
 ofInt Bytes v = none
 ofInt Opaque v = none
 ofInt Float v = none
@@ -81,7 +80,7 @@ ofFixed Opaque b = none
 ofFixed Float b = some (cFix b)
 ofFixed (Nested k) b = none
 
--- what a value says under a form; "listed fields with another wire type … are refused"
+-- what a value says under a form; "Listed fields with another wire type … are refused"
 abbrev pub decode : Form → Value → Option Content
 decode f (vint v) = ofInt f v
 decode f (v64 b) = none
@@ -91,7 +90,7 @@ decode f (v32 b) = ofFixed f b
 -- the first item of a number
 abbrev pub find : ℕ → List Item → Option Content
 find n [] = none
-find n (item m c ∷ is) = choose (eqb n m) (some c) (find n is)
+find n (item m c ∷ is) = cond (eqb n m) (some c) (find n is)
 
 abbrev pub add : ℕ → List Item → Option Content → Option (List Item)
 add n acc none = none
@@ -100,9 +99,9 @@ add n acc (some c) = some (acc ++ (item n c ∷ []))
 -- one field after the items found so far. Document 02, CR 5: "For singular listed fields follow the public encoding instead of refusing"; "Security sent
 -- twice, a second singular field inside it … stay refused": these are Once
 abbrev pub byRule : Rule → Bool → ℕ → Value → List Item → Option (List Item)
-byRule Unlisted st n v acc = choose st none (some acc)
+byRule Unlisted st n v acc = cond st none (some acc)
 byRule Refused st n v acc = none
-byRule (Once f) st n v acc = choose (isSome (find n acc)) none (add n acc (decode f v))
+byRule (Once f) st n v acc = cond (isSome (find n acc)) none (add n acc (decode f v))
 byRule (Single f) st n v acc = add n acc (decode f v)
 byRule (Repeated f) st n v acc = add n acc (decode f v)
 

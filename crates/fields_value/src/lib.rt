@@ -64,7 +64,8 @@ fn take_int(f: Form, v: u64) -> Taken
 }
 
 fn take_bytes(f: Form, start: usize, len: usize) -> Taken
-    ensures { λ r. ⌜ ((s : List ℕ) → meansTaken s r ≡ ofBytes f (take len (drop start s))) × ((s : List ℕ) → start + len ≤ length s → len < length s → insideTaken s r) ⌝ }
+    ensures { λ r. ⌜ ((s : List ℕ) → meansTaken s r ≡ ofBytes f (take len (drop start s)))
+        × ((s : List ℕ) → start + len ≤ length s → len < length s → insideTaken s r) ⌝ }
 {
     match f {
         Form::Int64 => Taken::Wrong,

@@ -5,12 +5,12 @@ use native.Mathlib.Nat.{pow-succ', pow-le-pow-right, mul-add, mul-assoc, mul-le-
 use native.Mathlib.Numerals.{add-one, sub-one}
 use mathlib.Core.Path.{_≡_, refl, sym, ap, _∙_, subst}
 use mathlib.Core.List.{List}
-use mathlib.Core.Bool.{Bool, true, false}
+use mathlib.Core.Bool.{Bool, true, false, cond}
 use lib.ListN.{length, drop, getD, drop-of-length-le}
 use lib.Seq.{drop-cons}
 use lib.Dec.{ltb}
 use borrow.Author.Tests.{lt-ltb, le-ltb}
-use Rattle.fields_wire.specs.Reader.{choose, Got, nothing, got}
+use Rattle.fields_wire.specs.Reader.{Got, nothing, got}
 use Rattle.fields_wire.specs.Wire.{endBelow, onTop, varintIn, varint}
 use Rattle.fields_wire.specs.VarintAnswer.{above, meansVarint, endsVarint}
 use Rattle.fields_wire.specs.declared.varint.Varint.{Varint}
@@ -28,7 +28,7 @@ at-end (suc n) s at h = rw (drop-of-length-le s h)
 -- one byte of a varint
 at-byte : (n : ℕ) (s : List ℕ) (at : ℕ) → at < length s → (n ≡ 0 → ⊥)
     → varintIn n (drop at s)
-    ≡ choose (ltb (getD s at 0) 128) (choose (ltb (getD s at 0) (endBelow (n - 1))) (got (getD s at 0) (drop (at + 1) s)) nothing)
+    ≡ cond (ltb (getD s at 0) 128) (cond (ltb (getD s at 0) (endBelow (n - 1))) (got (getD s at 0) (drop (at + 1) s)) nothing)
     (onTop (getD s at 0) (varintIn (n - 1) (drop (at + 1) s)))
 unfolding varintIn
 at-byte zero s at h z = absurd (z refl)
@@ -148,7 +148,7 @@ pub tenth-wrong : (s : List ℕ) (at low : ℕ) → at < length s → 2 ≤ getD
 unfolding varintIn
 tenth-wrong s at low h b = ap (above low (2 ^ 63)) (go (ltb (getD s at 0) 128) ∙ sym (rw (le-ltb (getD s at 0) 2 b) at (at-byte 1 s at h (λ e. omega arith))))
   where
-    go : (t : Bool) → nothing ≡ choose t nothing (onTop (getD s at 0) nothing)
+    go : (t : Bool) → nothing ≡ cond t nothing (onTop (getD s at 0) nothing)
     go true = refl
     go false = refl
 

@@ -1,6 +1,8 @@
 pub mod Reader
+pub mod Steady
 pub mod ReaderLaws
 pub mod Wire
+pub mod Appended
 pub mod WireLaws
 pub mod Varint
 pub mod VarintLaws

@@ -1,13 +1,9 @@
 -- Readers: a reader takes a value off the front of a list of bytes and gives what is left, or gives nothing.
 use Prim.Native.Nat.{ℕ}
 use mathlib.Core.List.{List}
-use mathlib.Core.Bool.{Bool, true, false}
+use mathlib.Core.Bool.{Bool, cond}
 use lib.ListN.{length, take, drop}
 use lib.Dec.{leb}
-
-abbrev pub choose : {A : Type 0} → Bool → A → A → A
-choose true a b = a
-choose false a b = b
 
 -- what is read and what is left, or nothing
 pub data Got (A : Type 0) : Type 0 where
@@ -32,8 +28,8 @@ abbrev pub fail : {A : Type 0} → Reader A
 fail = λ xs. nothing
 
 abbrev pub only : {A : Type 0} → Bool → Reader A → Reader A
-only t f = λ xs. choose t (f xs) nothing
+only t f = λ xs. cond t (f xs) nothing
 
 -- the first n bytes
 abbrev pub part : ℕ → Reader (List ℕ)
-part n = λ xs. choose (leb n (length xs)) (got (take n xs) (drop n xs)) nothing
+part n = λ xs. cond (leb n (length xs)) (got (take n xs) (drop n xs)) nothing

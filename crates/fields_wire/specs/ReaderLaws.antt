@@ -1,14 +1,15 @@
 -- Two laws hold of whatever is made of the pieces of `Reader`: what follows does not change what is read, and what is left is shorter.
-use Prim.Native.Nat.{ℕ, zero, suc, _+_, _-_, _≤_, _<_}
+use Prim.Native.Nat.{ℕ, _+_, _-_, _≤_}
 use native.Mathlib.Omega.{arith}
-use mathlib.Core.Path.{_≡_, refl, sym, ap, _∙_}
-use mathlib.Core.List.{List, [], _∷_, _++_}
-use mathlib.Core.Bool.{Bool, true, false}
+use mathlib.Core.Path.{_≡_, refl, ap}
+use mathlib.Core.List.{List, _++_}
+use mathlib.Core.Bool.{Bool, true, false, cond}
 use lib.ListN.{length, take, drop, length-append, length-drop}
 use lib.Seq.{take-append-le, drop-append-le}
 use lib.Dec.{leb}
 use borrow.Author.Tests.{leb-true, le-leb}
-use Rattle.fields_wire.specs.Reader.{choose, Got, nothing, got, then, Reader, andThen, give, fail, only, part}
+use Rattle.fields_wire.specs.Reader.{Got, nothing, got, then, Reader, andThen, give, fail, only, part}
+use Rattle.fields_wire.specs.Steady.{Steady}
 
 pub never : {A B : Type 0} {a : A} {r : List ℕ} → _≡_ {A = Got A} nothing (got a r) → B
 never e = let z : _≡_ {A = ℕ} 0 1 = cc in absurd (omega arith)
@@ -18,14 +19,9 @@ pub then-got : {A B : Type 0} (o : Got A) (f : A → List ℕ → Got B) {b : B}
 then-got nothing f e = never e
 then-got (got a s) f e = (a, s, refl, e)
 
-pub choose-got : {A : Type 0} (t : Bool) (o : Got A) {b : A} {r : List ℕ} → choose t o nothing ≡ got b r → (t ≡ true) × (o ≡ got b r)
+pub choose-got : {A : Type 0} (t : Bool) (o : Got A) {b : A} {r : List ℕ} → cond t o nothing ≡ got b r → (t ≡ true) × (o ≡ got b r)
 choose-got true o e = (refl, e)
 choose-got false o e = never e
-
--- what a reader that takes at least n bytes keeps
-pub record Steady {A : Type 0} (n : ℕ) (f : Reader A) : Type 0 where
-  pub more : (xs ys : List ℕ) {a : A} {r : List ℕ} → f xs ≡ got a r → f (xs ++ ys) ≡ got a (r ++ ys)
-  pub less : (xs : List ℕ) {a : A} {r : List ℕ} → f xs ≡ got a r → n + length r ≤ length xs
 
 pub steady-then : {A B : Type 0} {n : ℕ} {f : Reader A} {g : A → Reader B} → Steady n f → ((a : A) → Steady 0 (g a)) → Steady n (andThen f g)
 steady-then {A} {B} {n} {f} {g} hf hg = record { more = more; less = less }

@@ -1,13 +1,13 @@
 -- What follows of the definition of `Varint`: the reader reads it back, its length, and that nothing shorter reads as the same number.
 use Prim.Native.Nat.{ℕ, zero, suc, _+_, _*_, _-_, _/_, _%_, _^_, _≤_, _<_}
 use native.Mathlib.Omega.{arith}
-use mathlib.Core.Path.{_≡_, refl, sym, ap, _∙_}
+use mathlib.Core.Path.{_≡_, refl, ap}
 use mathlib.Core.List.{List, [], _∷_, _++_}
-use mathlib.Core.Bool.{Bool, true, false}
-use lib.ListN.{length, length-append}
-use lib.Dec.{ltb, leb, eqb}
+use mathlib.Core.Bool.{Bool, true, false, cond}
+use lib.ListN.{length}
+use lib.Dec.{ltb}
 use borrow.Author.Tests.{ltb-true, ltb-false, lt-ltb, le-ltb}
-use Rattle.fields_wire.specs.Reader.{choose, Got, nothing, got}
+use Rattle.fields_wire.specs.Reader.{nothing, got}
 use Rattle.fields_wire.specs.ReaderLaws.{never, choose-got}
 use Rattle.fields_wire.specs.Wire.{endBelow, onTop, varintIn, varint}
 use Rattle.fields_wire.specs.WireLaws.{steady-varint, onTop-got}
@@ -19,7 +19,7 @@ up-reads zero v h = rw (lt-ltb v 128 (omega arith), lt-ltb v 2 (omega arith))
 up-reads (suc n) v h = go (ltb v 128) refl (λ q. up-reads n (v / 128) q)
   where
     go : (t : Bool) → ltb v 128 ≡ t → (v / 128 < 2 * 128 ^ n → varintIn (suc n) (varintUp n (v / 128)) ≡ got (v / 128) [])
-        → varintIn (suc (suc n)) (choose t (v ∷ []) ((v % 128 + 128) ∷ varintUp n (v / 128))) ≡ got v []
+        → varintIn (suc (suc n)) (cond t (v ∷ []) ((v % 128 + 128) ∷ varintUp n (v / 128))) ≡ got v []
     go true e ih = rw e
     go false e ih =
         let q : varintIn (suc n) (varintUp n (v / 128)) ≡ got (v / 128) [] = ih (omega arith) in
@@ -40,7 +40,7 @@ up-length zero n v h = omega arith
 up-length (suc m) n v h = go n h (ltb v 128) refl (λ k q. up-length m k (v / 128) q)
   where
     go : (n : ℕ) → v < 128 ^ suc n → (t : Bool) → ltb v 128 ≡ t → ((k : ℕ) → v / 128 < 128 ^ suc k → length (varintUp m (v / 128)) ≤ suc k)
-        → length (choose t (v ∷ []) ((v % 128 + 128) ∷ varintUp m (v / 128))) ≤ suc n
+        → length (cond t (v ∷ []) ((v % 128 + 128) ∷ varintUp m (v / 128))) ≤ suc n
     go n h true e ih = omega arith
     go zero h false e ih = absurd (omega (arith, ltb-false v 128 e))
     go (suc k) h false e ih = omega (arith, ih k (omega arith))
@@ -61,13 +61,13 @@ up-long m zero v l h = go m
     go zero = omega arith
     go (suc m) = pick (ltb v 128)
       where
-        pick : (t : Bool) → 0 < length (choose t (v ∷ []) ((v % 128 + 128) ∷ varintUp m (v / 128)))
+        pick : (t : Bool) → 0 < length (cond t (v ∷ []) ((v % 128 + 128) ∷ varintUp m (v / 128)))
         pick true = omega arith
         pick false = omega arith
 up-long zero (suc n) v l h = absurd (omega arith)
 up-long (suc m) (suc n) v l h = go (ltb v 128) refl (up-long m n (v / 128) (omega arith) (omega arith))
   where
-    go : (t : Bool) → ltb v 128 ≡ t → n < length (varintUp m (v / 128)) → suc n < length (choose t (v ∷ []) ((v % 128 + 128) ∷ varintUp m (v / 128)))
+    go : (t : Bool) → ltb v 128 ≡ t → n < length (varintUp m (v / 128)) → suc n < length (cond t (v ∷ []) ((v % 128 + 128) ∷ varintUp m (v / 128)))
     go true e ih = absurd (omega (arith, ltb-true v 128 e, pos n))
     go false e ih = omega arith
 
@@ -82,17 +82,17 @@ up-shortest m (suc k) [] e = never e
 up-shortest zero (suc k) (b ∷ xs) {v} {r} e = steady-varint (suc k) .less (b ∷ xs) e
 up-shortest (suc m) (suc k) (b ∷ xs) {v} {r} e = go (ltb b 128) refl e (λ w q. up-shortest m k xs {v = w} {r = r} q)
   where
-    small : v < 128 → length r ≤ length xs → length (choose (ltb v 128) (v ∷ []) ((v % 128 + 128) ∷ varintUp m (v / 128))) + length r ≤ suc (length xs)
+    small : v < 128 → length r ≤ length xs → length (cond (ltb v 128) (v ∷ []) ((v % 128 + 128) ∷ varintUp m (v / 128))) + length r ≤ suc (length xs)
     small l h = rw (lt-ltb v 128 l) (omega arith)
 
     pick : (t : Bool) (w : ℕ) → v / 128 ≡ w → length (varintUp m w) + length r ≤ length xs
-        → length (choose t (v ∷ []) ((v % 128 + 128) ∷ varintUp m (v / 128))) + length r ≤ suc (length xs)
+        → length (cond t (v ∷ []) ((v % 128 + 128) ∷ varintUp m (v / 128))) + length r ≤ suc (length xs)
     pick true w d h = omega arith
     pick false w d h = rw d (omega arith)
 
-    go : (t : Bool) → ltb b 128 ≡ t → choose t (choose (ltb b (endBelow k)) (got b xs) nothing) (onTop b (varintIn k xs)) ≡ got v r
+    go : (t : Bool) → ltb b 128 ≡ t → cond t (cond (ltb b (endBelow k)) (got b xs) nothing) (onTop b (varintIn k xs)) ≡ got v r
         → ((w : ℕ) → varintIn k xs ≡ got w r → length (varintUp m w) + length r ≤ length xs)
-        → length (choose (ltb v 128) (v ∷ []) ((v % 128 + 128) ∷ varintUp m (v / 128))) + length r ≤ suc (length xs)
+        → length (cond (ltb v 128) (v ∷ []) ((v % 128 + 128) ∷ varintUp m (v / 128))) + length r ≤ suc (length xs)
     go true q h ih =
         let i = choose-got (ltb b (endBelow k)) (got b xs) h in
         let d : b ≡ v = cc (i .1) in
@@ -112,7 +112,7 @@ up-same zero zero v h l = refl
 up-same zero (suc n) v h l = rw (lt-ltb v 128 (omega arith))
 up-same (suc m) zero v h l = rw (lt-ltb v 128 (omega arith))
 up-same (suc m) (suc n) v h l =
-    ap (λ r. choose (ltb v 128) (v ∷ []) ((v % 128 + 128) ∷ r)) (up-same m n (v / 128) (omega arith) (omega arith))
+    ap (λ r. cond (ltb v 128) (v ∷ []) ((v % 128 + 128) ∷ r)) (up-same m n (v / 128) (omega arith) (omega arith))
 
 pub varint-one : (v : ℕ) → v < 128 → varintBytes v ≡ v ∷ []
 unfolding varintUp

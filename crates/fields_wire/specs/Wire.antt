@@ -3,10 +3,10 @@ use Prim.Native.Nat.{ℕ, zero, suc, _+_, _*_, _/_, _%_, _^_}
 use mathlib.Core.Path.{_≡_}
 use mathlib.Core.List.{List, [], _∷_}
 use mathlib.Core.Option.{Option, none, some}
-use mathlib.Core.Bool.{Bool, true, false}
+use mathlib.Core.Bool.{cond}
 use lib.ListN.{length}
 use lib.Dec.{ltb, eqb}
-use Rattle.fields_wire.specs.Reader.{choose, Got, nothing, got, Reader, andThen, give, only, part}
+use Rattle.fields_wire.specs.Reader.{Got, nothing, got, Reader, andThen, give, only, part}
 
 -- a byte that ends a varint is below this, where k more bytes could follow: the tenth byte is 0 or 1
 abbrev pub endBelow : ℕ → ℕ
@@ -22,7 +22,7 @@ onTop b (got v r) = got (b % 128 + 128 * v) r
 unfoldable pub varintIn : ℕ → Reader ℕ
 varintIn zero xs = nothing
 varintIn (suc k) [] = nothing
-varintIn (suc k) (b ∷ xs) = choose (ltb b 128) (choose (ltb b (endBelow k)) (got b xs) nothing) (onTop b (varintIn k xs))
+varintIn (suc k) (b ∷ xs) = cond (ltb b 128) (cond (ltb b (endBelow k)) (got b xs) nothing) (onTop b (varintIn k xs))
 
 abbrev pub varint : Reader ℕ
 varint = varintIn 10
@@ -39,10 +39,10 @@ pub data Field : Type 0 where
 -- the value of a field, by its wire type
 unfoldable pub valueOf : ℕ → ℕ → Reader Field
 valueOf n w =
-    λ xs. choose (eqb w 0) (andThen varint (λ v. give (field n (vint v))) xs)
-    (choose (eqb w 1) (andThen (part 8) (λ b. give (field n (v64 b))) xs)
-    (choose (eqb w 2) (andThen varint (λ l. andThen (part l) (λ b. give (field n (vlen b)))) xs)
-    (choose (eqb w 5) (andThen (part 4) (λ b. give (field n (v32 b))) xs) nothing)))
+    λ xs. cond (eqb w 0) (andThen varint (λ v. give (field n (vint v))) xs)
+    (cond (eqb w 1) (andThen (part 8) (λ b. give (field n (v64 b))) xs)
+    (cond (eqb w 2) (andThen varint (λ l. andThen (part l) (λ b. give (field n (vlen b)))) xs)
+    (cond (eqb w 5) (andThen (part 4) (λ b. give (field n (v32 b))) xs) nothing)))
 
 -- one field: a tag of at most 32 bits whose number is not 0, and the value
 unfoldable pub readField : Reader Field

@@ -4,13 +4,15 @@ use native.Mathlib.Omega.{arith}
 use mathlib.Core.Path.{_≡_, refl, sym, ap, _∙_}
 use mathlib.Core.List.{List, [], _∷_, _++_}
 use mathlib.Core.Option.{Option, none, some}
-use mathlib.Core.Bool.{Bool, true, false}
-use lib.ListN.{length, length-append}
-use lib.Dec.{ltb, leb, eqb}
-use borrow.Author.Tests.{ltb-true, ltb-false}
-use Rattle.fields_wire.specs.Reader.{choose, Got, nothing, got, Reader, part}
-use Rattle.fields_wire.specs.ReaderLaws.{never, choose-got, Steady, steady-then, steady-give, steady-fail, steady-only, steady-part}
+use mathlib.Core.Bool.{Bool, true, false, cond}
+use lib.ListN.{length}
+use lib.Dec.{ltb, eqb}
+use borrow.Author.Tests.{ltb-true}
+use Rattle.fields_wire.specs.Reader.{Got, nothing, got, Reader}
+use Rattle.fields_wire.specs.ReaderLaws.{never, choose-got, steady-then, steady-give, steady-fail, steady-only, steady-part}
+use Rattle.fields_wire.specs.Steady.{Steady}
 use Rattle.fields_wire.specs.Wire.{endBelow, onTop, varintIn, Field, valueOf, readField, consO, thenFields, fieldsIn, fieldsOf, Framed}
+use Rattle.fields_wire.specs.Appended.{appendO}
 
 pub onTop-got : (b : ℕ) (o : Got ℕ) {v : ℕ} {r : List ℕ} → onTop b o ≡ got v r → (w : ℕ) × (o ≡ got w r) × (v ≡ b % 128 + 128 * w)
 onTop-got b nothing e = never e
@@ -22,9 +24,9 @@ varint-more zero xs ys e = never e
 varint-more (suc k) [] ys e = never e
 varint-more (suc k) (b ∷ xs) ys {v} {r} e = go (ltb b 128) e (λ w e'. varint-more k xs ys {v = w} {r = r} e')
   where
-    go : (t : Bool) → choose t (choose (ltb b (endBelow k)) (got b xs) nothing) (onTop b (varintIn k xs)) ≡ got v r
+    go : (t : Bool) → cond t (cond (ltb b (endBelow k)) (got b xs) nothing) (onTop b (varintIn k xs)) ≡ got v r
         → ((w : ℕ) → varintIn k xs ≡ got w r → varintIn k (xs ++ ys) ≡ got w (r ++ ys))
-        → choose t (choose (ltb b (endBelow k)) (got b (xs ++ ys)) nothing) (onTop b (varintIn k (xs ++ ys))) ≡ got v (r ++ ys)
+        → cond t (cond (ltb b (endBelow k)) (got b (xs ++ ys)) nothing) (onTop b (varintIn k (xs ++ ys))) ≡ got v (r ++ ys)
     go true h ih = let i = choose-got (ltb b (endBelow k)) (got b xs) h in rw (i .0) (cc (i .1))
     go false h ih = let i = onTop-got b (varintIn k xs) h in rw (ih (i .0) (i .1)) (ap (λ n. got n (r ++ ys)) (sym (i .2)))
 
@@ -34,7 +36,7 @@ varint-less zero xs e = never e
 varint-less (suc k) [] e = never e
 varint-less (suc k) (b ∷ xs) {v} {r} e = go (ltb b 128) e (λ w e'. varint-less k xs {v = w} {r = r} e')
   where
-    go : (t : Bool) → choose t (choose (ltb b (endBelow k)) (got b xs) nothing) (onTop b (varintIn k xs)) ≡ got v r
+    go : (t : Bool) → cond t (cond (ltb b (endBelow k)) (got b xs) nothing) (onTop b (varintIn k xs)) ≡ got v r
         → ((w : ℕ) → varintIn k xs ≡ got w r → 1 + length r ≤ length xs) → 1 + length r ≤ suc (length xs)
     go true h ih = let i = choose-got (ltb b (endBelow k)) (got b xs) h in let d : xs ≡ r = cc (i .1) in omega (arith, ap length d)
     go false h ih = let i = onTop-got b (varintIn k xs) h in omega (arith, ih (i .0) (i .1))
@@ -52,12 +54,12 @@ unfolding varintIn
 varint-below k [] e = never e
 varint-below zero (b ∷ xs) {v} {r} e = go (ltb b 128) e
   where
-    go : (t : Bool) → choose t (choose (ltb b 2) (got b xs) nothing) (onTop b nothing) ≡ got v r → v < 2 * 128 ^ 0
+    go : (t : Bool) → cond t (cond (ltb b 2) (got b xs) nothing) (onTop b nothing) ≡ got v r → v < 2 * 128 ^ 0
     go true h = let i = choose-got (ltb b 2) (got b xs) h in let d : b ≡ v = cc (i .1) in omega (arith, ltb-true b 2 (i .0))
     go false h = never h
 varint-below (suc k) (b ∷ xs) {v} {r} e = go (ltb b 128) refl e (λ w e'. varint-below k xs {v = w} {r = r} e')
   where
-    go : (t : Bool) → ltb b 128 ≡ t → choose t (choose (ltb b 128) (got b xs) nothing) (onTop b (varintIn (suc k) xs)) ≡ got v r
+    go : (t : Bool) → ltb b 128 ≡ t → cond t (cond (ltb b 128) (got b xs) nothing) (onTop b (varintIn (suc k) xs)) ≡ got v r
         → ((w : ℕ) → varintIn (suc k) xs ≡ got w r → w < 2 * 128 ^ k) → v < 2 * 128 ^ suc k
     go true q h ih = let i = choose-got (ltb b 128) (got b xs) h in let d : b ≡ v = cc (i .1) in omega (arith, ltb-true b 128 q, pow-pos-128 k)
     go false q h ih = let i = onTop-got b (varintIn (suc k) xs) h in omega (arith, ih (i .0) (i .1), i .2)
@@ -65,7 +67,7 @@ varint-below (suc k) (b ∷ xs) {v} {r} e = go (ltb b 128) refl e (λ w e'. vari
 weaken : {A : Type 0} {n : ℕ} {f : Reader A} → Steady n f → Steady 0 f
 weaken h = record { more = h .more; less = λ xs e. omega (arith, h .less xs e) }
 
-steady-choose : {A : Type 0} {n : ℕ} (t : Bool) {f g : Reader A} → Steady n f → Steady n g → Steady n (λ xs. choose t (f xs) (g xs))
+steady-choose : {A : Type 0} {n : ℕ} (t : Bool) {f g : Reader A} → Steady n f → Steady n g → Steady n (λ xs. cond t (f xs) (g xs))
 steady-choose true hf hg = record { more = hf .more; less = hf .less }
 steady-choose false hf hg = record { more = hg .more; less = hg .less }
 
@@ -108,10 +110,6 @@ fields-front (b ∷ xs) {f} {r} e =
 
 pub fields-put : {f : Field} {x : List ℕ} (m : List ℕ) → Framed f x → fieldsOf (x ++ m) ≡ consO f (fieldsOf m)
 fields-put {f} {x} m e = fields-front (x ++ m) (steady-field .more x m (e .whole))
-
-abbrev pub appendO : List Field → Option (List Field) → Option (List Field)
-appendO fs none = none
-appendO fs (some gs) = some (fs ++ gs)
 
 append-none : (o : Option (List Field)) → o ≡ appendO [] o
 append-none none = refl

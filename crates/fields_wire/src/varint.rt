@@ -6,15 +6,11 @@ ghost use Rattle.fields_wire.specs.Wire.{varintIn, varint};
 ghost use Rattle.fields_wire.specs.VarintAnswer.{above, meansVarint, endsVarint};
 
 // A varint's value and the place past it; or no varint stands there.
+use base_integers::as_u64::wide;
+
 pub enum Varint {
     Read { value: u64, next: usize },
     Bad,
-}
-
-fn wide(x: u8) -> u64
-    ensures { λ r. ⌜ r ≡ x ⌝ }
-{
-    x as u64
 }
 
 // The tenth byte, 0 or 1, after nine that hold `low`.

@@ -1,3 +1,4 @@
 pub mod Pushed
+pub mod Copying
 pub mod PushedLaws
-pub mod TreeParts
+pub mod TreePartsLaws

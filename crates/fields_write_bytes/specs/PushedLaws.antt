@@ -8,6 +8,7 @@ use lib.ListN.{length, take, drop, set, getD, length-append, length-set, take-ap
 use lib.Seq.{set-split, drop-at, length-take-le, take-take, take-append-le, take-all, drop-length, paste, paste-zero, paste-suc}
 use Rattle.fields_encoding.specs.Encode.{head, lenField}
 use Rattle.fields_write_bytes.specs.Pushed.{Pushed, Starts}
+use Rattle.fields_write_bytes.specs.Copying.{Copying}
 
 -- from r on: the bytes, and what stood behind them
 pub pushed-tail : {r at : ℕ} {bs l m : List ℕ} → Pushed r at bs l m → drop r m ≡ bs ++ drop at l
@@ -74,14 +75,6 @@ pushed-starts {r} {n} {bs} {l} h p =
 
 pub starts-again : {r : ℕ} {xs ys l m : List ℕ} → xs ≡ ys → Starts r xs l m → Starts r ys l m
 starts-again e w = rw e at w
-
--- a copy of src to p, forwards, after i bytes
-pub record Copying (at : ℕ) (src before : List ℕ) (p i : ℕ) (now : List ℕ) : Type 0 where
-  pub from : p + length src ≡ at
-  pub fits : at ≤ length before
-  pub within : i ≤ length src
-  pub long : length now ≡ length before
-  pub same : now ≡ paste before p src i
 
 pub copying-none : {p at : ℕ} {src l : List ℕ} → p + length src ≡ at → at ≤ length l → Copying at src l p 0 l
 copying-none {p} {at} {src} {l} h k = record { from = h; fits = k; within = omega arith; long = refl; same = paste-zero l p src }

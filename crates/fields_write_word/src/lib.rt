@@ -4,7 +4,7 @@ ghost use Prim.Native.Nat.{_≤_};
 ghost use lib.ListN.{length};
 ghost use Rattle.fields_encoding.specs.Encode.{floatBytes};
 ghost use Rattle.fields_write_bytes.specs.Pushed.{Pushed};
-ghost use Rattle.fields_write_word.specs.Word.{be32};
+ghost use Rattle.fields_write_word.specs.Word.{low32Bytes};
 use fields_write_bytes::push_byte;
 
 // Four bytes, in this order.
@@ -21,7 +21,7 @@ fn push_four(out: &mut [u8], at: usize, a: u8, b: u8, c: u8, d: u8) -> usize
 // The low 32 bits of `v` as four bytes, the highest first.
 pub fn push_be32(out: &mut [u8], at: usize, v: usize) -> usize
     requires { ⌜ (4 ≤ at) × (at ≤ length (now out)) ⌝ }
-    ensures { λ r. ⌜ Pushed r at (be32 v) (now (out .entry)) (now (out .exit)) ⌝ }
+    ensures { λ r. ⌜ Pushed r at (low32Bytes v) (now (out .entry)) (now (out .exit)) ⌝ }
 {
     push_four(
         out,

@@ -10,8 +10,8 @@ use Rattle.fields_lookup.specs.Views.{Inside}
 use Rattle.fields_lookup.specs.declared.parts.Part.{Part}
 use Rattle.request_command.specs.declared.Body.{Body}
 use Rattle.request_command.specs.Views.{BodyLies, bodyView}
-use Rattle.judge_permission.specs.Given.{Keys}
-use Rattle.fields_lookup.specs.Slices.{slice-at}
+use Rattle.judge_permission.specs.PermissionOf.{Keys}
+use Rattle.fields_lookup.specs.SliceLaws.{slice-at}
 
 abbrev cut : List ℕ → Part → List ℕ
 cut s p = take (p .start + p .len - p .start) (drop (p .start) s)

@@ -1,6 +1,7 @@
 // Steps 8 and 9: whether an operation is done, by its body and by who asks.
 use access_record::Record;
 use protocol::Operation;
+use protocol::status::NOT_AUTHORIZED;
 use request_command::Body;
 ghost use mathlib.Core.Path.{_≡_};
 ghost use mathlib.Core.List.{List};
@@ -13,34 +14,35 @@ ghost use Rattle.judge_admission.specs.Admission.{admission};
 
 // The code that refuses the operation, 0 where none does; value is the length of the value part.
 pub fn admit(
-    o: Operation,
+    operation: Operation,
     device: &Record,
-    place: usize,
+    acl: usize,
     protected: bool,
-    s: &[u8],
-    b: Body,
+    command: &[u8],
+    body: Body,
     value: usize,
 ) -> u64
-    requires { ⌜ Placed (now device) place × BodyLies (now s) b ⌝ }
-    ensures { λ r. ⌜ ((v : List ℕ) → length v ≡ value → r ≡ admission (aclOf (tableOf (now (device .entry))) place) protected o (bodyView (now (s .entry)) b) v) ⌝ }
+    requires { ⌜ Placed (now device) acl × BodyLies (now command) body ⌝ }
+    ensures { λ r. ⌜ ((v : List ℕ) → length v ≡ value
+        → r ≡ admission (aclOf (tableOf (now (device .entry))) acl) protected operation (bodyView (now (command .entry)) body) v) ⌝ }
 {
-    let fault = judge_body::body_fault(o, s, b, value);
+    let fault = judge_body::body_fault(operation, command, body, value);
     if fault != 0 {
         return fault;
     }
-    let key = b.entry.key.start;
-    let start = b.range.start.start;
-    let end = b.range.end.start;
+    let key = body.entry.key.start;
+    let start = body.range.start.start;
+    let end = body.range.end.start;
     if !judge_permission::permitted(
         device,
-        place,
+        acl,
         protected,
-        o,
-        &s[key..key + b.entry.key.len],
-        &s[start..start + b.range.start.len],
-        &s[end..end + b.range.end.len],
+        operation,
+        &command[key..key + body.entry.key.len],
+        &command[start..start + body.range.start.len],
+        &command[end..end + body.range.end.len],
     ) {
-        return 3;
+        return NOT_AUTHORIZED;
     }
     0
 }

@@ -3,17 +3,16 @@ use Prim.Native.Nat.{ℕ}
 use mathlib.Core.Path.{_≡_, refl, sym, ap, _∙_}
 use mathlib.Core.List.{List, []}
 use mathlib.Core.Option.{Option, none, some}
-use mathlib.Core.Bool.{Bool, true, false, not}
+use mathlib.Core.Bool.{Bool, true, false, not, _&&_}
 use lib.ListN.{length}
 use Rattle.fields_schema.specs.Tree.{guard, isSome, mapO}
-use Rattle.access_record.specs.Table.{both}
-use Rattle.fields_lookup.specs.Views.{bytesAt, numView, orEmpty, partView, Lies}
+use Rattle.base_definitions.specs.Options.{orElse}
+use Rattle.fields_lookup.specs.Views.{bytesAt, numView, partView, Lies}
 use Rattle.fields_lookup.specs.declared.parts.Part.{Part}
 use Rattle.fields_lookup.proofs.Slotted.{length-at}
 use Rattle.protocol.specs.Command as c
-use Rattle.protocol.specs.Command.{orElse}
 use Rattle.protocol.specs.Judge.{present, keyValueGood, changeGood, securityGood, algorithmsGood}
-use Rattle.judge_body_rules.specs.Given.{securityFault, Lengths, RangeLengths}
+use Rattle.judge_body_rules.specs.BodyParts.{securityFault, Lengths, RangeLengths}
 use Rattle.request_parts.specs.Views.{keyValueView, rangeView, KeyValueLies, RangeLies}
 use Rattle.request_parts.specs.declared.KeyValue.{KeyValue}
 use Rattle.request_parts.specs.declared.Range.{Range}
@@ -34,7 +33,7 @@ is-there true x = refl
 part-length : (s : List ℕ) (p : Part) → Lies s p → length (orElse [] (partView s p)) ≡ p .len
 part-length s p l = go (partView s p) (l .empty)
   where
-    go : (o : Option (List ℕ)) → bytesAt s p ≡ orEmpty o → length (orElse [] o) ≡ p .len
+    go : (o : Option (List ℕ)) → bytesAt s p ≡ orElse [] o → length (orElse [] o) ≡ p .len
     go none e = sym (ap length e) ∙ length-at s p (l .inside)
     go (some b) e = sym (ap length e) ∙ length-at s p (l .inside)
 
@@ -63,7 +62,7 @@ pub only-metadata : (b : Bool) (x : c.KeyValue) → x .metadataOnly ≡ true →
 only-metadata false x e = refl
 only-metadata true x e = go (keyValueGood x) (x .metadataOnly) e
   where
-    go : (g m : Bool) → m ≡ true → false ≡ both g (not m)
+    go : (g m : Bool) → m ≡ true → false ≡ (g && not m)
     go false m e = refl
     go true m e = rw e
 
@@ -71,7 +70,7 @@ pub whole-value : (b : Bool) (x : c.KeyValue) → x .metadataOnly ≡ false → 
 whole-value false x e = refl
 whole-value true x e = go (keyValueGood x) (x .metadataOnly) e
   where
-    go : (g m : Bool) → m ≡ false → g ≡ both g (not m)
+    go : (g m : Bool) → m ≡ false → g ≡ (g && not m)
     go false m e = refl
     go true m e = rw e
 

@@ -1,10 +1,13 @@
 // Step 8: whether the body of a command is right for its operation.
+use access_record::offsets::RECORD_BYTES;
 use fields_lookup::parts::Part;
 use judge_body_rules::broken;
 use judge_body_rules::fault;
 use judge_body_rules::key_value_good;
 use judge_body_rules::range_good;
 use protocol::Operation;
+use protocol::status::INVALID_REQUEST;
+use protocol::status::NO_SUCH_HMAC_ALGORITHM;
 use request_command::Body;
 use request_command::numbers::flag_of;
 use request_command::numbers::number_or;
@@ -20,7 +23,7 @@ ghost use Prim.Native.Nat.{ℕ};
 ghost use lib.ListN.{length};
 ghost use Rattle.fields_schema.specs.Tree.{guard};
 ghost use Rattle.protocol.specs.Judge.{broken, fault, present, keyValueGood, changeGood, rangeGood, typesGood};
-ghost use Rattle.judge_body_rules.specs.Given.{securityFault};
+ghost use Rattle.judge_body_rules.specs.BodyParts.{securityFault};
 ghost use Rattle.request_parts.specs.Views.{KeyValueLies, RangeLies, keyValueView, rangeView};
 ghost use Rattle.request_command.specs.Views.{BodyLies, bodyView};
 ghost use Rattle.request_scope.specs.Stands.{StandsSecurity, aclsIn};
@@ -61,67 +64,67 @@ fn range_right(ranged: bool, g: Range) -> bool
 }
 
 // Whether the getLog is there with a type, and every type may be asked for.
-fn log_right(s: &[u8], logged: bool) -> bool
-    requires { ⌜ (logged ≡ true → Reads Command (now s)) ⌝ }
-    ensures { λ r. ⌜ r ≡ present typesGood (guard logged (logTypes (now (s .entry)))) ⌝ }
+fn log_right(command: &[u8], logged: bool) -> bool
+    requires { ⌜ (logged ≡ true → Reads Command (now command)) ⌝ }
+    ensures { λ r. ⌜ r ≡ present typesGood (guard logged (logTypes (now (command .entry)))) ⌝ }
 {
     if !logged {
         return false;
     }
-    types_good(log_types(s))
+    types_good(log_types(command))
 }
 
 // What is wrong with the getLog where the operation uses it; else 0.
-fn log_code(o: Operation, s: &[u8], logged: bool) -> u64
-    requires { ⌜ (logged ≡ true → Reads Command (now s)) ⌝ }
-    ensures { λ r. ⌜ (o ≡ Operation.GetLog → r ≡ broken (present typesGood (guard logged (logTypes (now (s .entry)))))) ⌝ }
+fn log_code(operation: Operation, command: &[u8], logged: bool) -> u64
+    requires { ⌜ (logged ≡ true → Reads Command (now command)) ⌝ }
+    ensures { λ r. ⌜ (operation ≡ Operation.GetLog → r ≡ broken (present typesGood (guard logged (logTypes (now (command .entry)))))) ⌝ }
 {
-    match o {
-        Operation::GetLog => broken(log_right(s, logged)),
+    match operation {
+        Operation::GetLog => broken(log_right(command, logged)),
         _ => 0,
     }
 }
 
 // What is wrong with the security part, or 0: the ACL rules first, then the algorithms. The table that is made of it is thrown away.
-fn security_fault(s: &[u8], p: Part) -> u64
-    requires { ⌜ StandsSecurity (now s) p ⌝ }
-    ensures { λ r. ⌜ r ≡ securityFault (guard (p .has) (aclsIn (now (s .entry)) p)) ⌝ }
+fn security_fault(command: &[u8], security: Part) -> u64
+    requires { ⌜ StandsSecurity (now command) security ⌝ }
+    ensures { λ r. ⌜ r ≡ securityFault (guard (security .has) (aclsIn (now (command .entry)) security)) ⌝ }
 {
-    let has = p.has;
+    let has = security.has;
     if !has {
-        return 16;
+        return INVALID_REQUEST;
     }
-    let mut scratch = [0u8; 2960];
-    if !security_table(s, p, 0, &mut scratch) {
-        return 16;
+    let mut scratch = [0u8; RECORD_BYTES];
+    if !security_table(command, security, 0, &mut scratch) {
+        return INVALID_REQUEST;
     }
-    if !algorithms_good(s, p) {
-        return 15;
+    if !algorithms_good(command, security) {
+        return NO_SUCH_HMAC_ALGORITHM;
     }
     0
 }
 
 // The same where the operation uses the part; else 0.
-fn security_code(o: Operation, s: &[u8], p: Part) -> u64
-    requires { ⌜ StandsSecurity (now s) p ⌝ }
-    ensures { λ r. ⌜ (o ≡ Operation.Security → r ≡ securityFault (guard (p .has) (aclsIn (now (s .entry)) p))) ⌝ }
+fn security_code(operation: Operation, command: &[u8], security: Part) -> u64
+    requires { ⌜ StandsSecurity (now command) security ⌝ }
+    ensures { λ r. ⌜ (operation ≡ Operation.Security → r ≡ securityFault (guard (security .has) (aclsIn (now (command .entry)) security))) ⌝ }
 {
-    match o {
-        Operation::Security => security_fault(s, p),
+    match operation {
+        Operation::Security => security_fault(command, security),
         _ => 0,
     }
 }
 
 // What is wrong with a body, or 0: from the length of the value part.
-pub fn body_fault(o: Operation, s: &[u8], b: Body, value: usize) -> u64
-    requires { ⌜ BodyLies (now s) b ⌝ }
-    ensures { λ r. ⌜ ((v : List ℕ) → length v ≡ value → r ≡ fault o (bodyView (now (s .entry)) b) v) ⌝ }
+pub fn body_fault(operation: Operation, command: &[u8], body: Body, value: usize) -> u64
+    requires { ⌜ BodyLies (now command) body ⌝ }
+    ensures { λ r. ⌜ ((v : List ℕ) → length v ≡ value → r ≡ fault operation (bodyView (now (command .entry)) body) v) ⌝ }
 {
-    let pair = broken(key_value_right(b.keyed, b.entry));
-    let change = broken(change_right(b.keyed, b.entry));
-    let range = broken(range_right(b.ranged, b.range));
-    let setup = broken(b.changed);
-    let log = log_code(o, s, b.logged);
-    let security = security_code(o, s, b.security);
-    fault(o, value, pair, change, range, setup, log, security)
+    let pair = broken(key_value_right(body.keyed, body.entry));
+    let change = broken(change_right(body.keyed, body.entry));
+    let range = broken(range_right(body.ranged, body.range));
+    let setup = broken(body.changed);
+    let log = log_code(operation, command, body.logged);
+    let security = security_code(operation, command, body.security);
+    fault(operation, value, pair, change, range, setup, log, security)
 }

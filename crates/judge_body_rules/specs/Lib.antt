@@ -1,3 +1,4 @@
-pub mod Given
-pub mod Laws
-pub mod Passed
+pub mod BodyParts
+pub mod LengthsGood
+pub mod BodyRuleLaws
+pub mod PassedLaws

@@ -5,8 +5,9 @@ ghost use Prim.Native.Nat.{ℕ};
 ghost use Rattle.fields_schema.specs.Tree.{guard};
 ghost use Rattle.protocol.specs.Command.{KeyValue, Range, Body};
 ghost use Rattle.protocol.specs.Judge.{broken, fault, keyValueGood, rangeGood};
-ghost use Rattle.judge_body_rules.specs.Given.{mostValue, partFault, Lengths, RangeLengths, Checked};
+ghost use Rattle.judge_body_rules.specs.BodyParts.{mostValue, partFault, Lengths, RangeLengths, Checked};
 use protocol::Operation;
+use protocol::status::INVALID_REQUEST;
 
 // The lengths of a keyValue's key, newVersion, dbVersion and tag.
 pub fn key_value_good(key: usize, new: usize, old: usize, tag: usize) -> bool
@@ -53,7 +54,7 @@ pub fn broken(good: bool) -> u64
     if good {
         return 0;
     }
-    16
+    INVALID_REQUEST
 }
 
 // The longest value part that an operation may have.
@@ -78,7 +79,7 @@ fn most_value(o: Operation) -> usize
 
 // The code of the part that an operation uses.
 fn part_fault(
-    o: Operation,
+    operation: Operation,
     pair: u64,
     change: u64,
     range: u64,
@@ -86,9 +87,9 @@ fn part_fault(
     log: u64,
     security: u64,
 ) -> u64
-    ensures { λ r. ⌜ r ≡ partFault o pair change range setup log security ⌝ }
+    ensures { λ r. ⌜ r ≡ partFault operation pair change range setup log security ⌝ }
 {
-    match o {
+    match operation {
         Operation::Noop => 0,
         Operation::FlushAllData => 0,
         Operation::Get => pair,
@@ -106,7 +107,7 @@ fn part_fault(
 
 // What is wrong with a body, or 0: from the length of the value part and the codes of the parts.
 pub fn fault(
-    o: Operation,
+    operation: Operation,
     value: usize,
     pair: u64,
     change: u64,
@@ -115,10 +116,10 @@ pub fn fault(
     log: u64,
     security: u64,
 ) -> u64
-    ensures { λ r. ⌜ ((b : Body) (v : List ℕ) → Checked o b v value pair change range setup log security → r ≡ fault o b v) ⌝ }
+    ensures { λ r. ⌜ ((b : Body) (v : List ℕ) → Checked operation b v value pair change range setup log security → r ≡ fault operation b v) ⌝ }
 {
-    if most_value(o) < value {
-        return 16;
+    if most_value(operation) < value {
+        return INVALID_REQUEST;
     }
-    part_fault(o, pair, change, range, setup, log, security)
+    part_fault(operation, pair, change, range, setup, log, security)
 }

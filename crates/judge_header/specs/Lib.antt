@@ -1,4 +1,6 @@
 pub mod MessageTypeLaws
-pub mod Given
+pub mod HeaderFault
+pub mod FaultBy
 pub mod HeaderLaws
-pub mod Steps
+pub mod Rest
+pub mod RestLaws

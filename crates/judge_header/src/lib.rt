@@ -1,3 +1,3 @@
-// Document 01, "The order of judgement", step 7: what a messageType asks for, and the type of a reply. Document 01, "The order of judgement": the rules of steps 4 to 6.
+// Document 01, "The order of judgement", steps 4 to 7: the rules of the header, and what a messageType asks for.
 pub mod header;
 pub mod message_type;

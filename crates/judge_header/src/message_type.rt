@@ -1,6 +1,19 @@
 // Document 01, "The order of judgement", step 7: what a messageType asks for, and the type of a reply.
 use protocol::Asked;
 use protocol::Operation;
+use protocol::message_type::DELETE;
+use protocol::message_type::FLUSHALLDATA;
+use protocol::message_type::GET;
+use protocol::message_type::GETKEYRANGE;
+use protocol::message_type::GETLOG;
+use protocol::message_type::GETNEXT;
+use protocol::message_type::GETPREVIOUS;
+use protocol::message_type::GETVERSION;
+use protocol::message_type::INVALID_MESSAGE_TYPE;
+use protocol::message_type::NOOP;
+use protocol::message_type::PUT;
+use protocol::message_type::SECURITY;
+use protocol::message_type::SETUP;
 ghost use mathlib.Core.Path.{_≡_};
 ghost use Rattle.fields_schema.specs.Tree.{guard};
 ghost use Rattle.protocol.specs.Operation.{typeOf, asked, askedBy, replyType};
@@ -10,18 +23,18 @@ pub fn asked(n: u64) -> Asked
     ensures { λ r. ⌜ r ≡ asked n ⌝ }
 {
     match n {
-        2 => Asked::Request(Operation::Get),
-        4 => Asked::Request(Operation::Put),
-        6 => Asked::Request(Operation::Delete),
-        8 => Asked::Request(Operation::GetNext),
-        10 => Asked::Request(Operation::GetPrevious),
-        12 => Asked::Request(Operation::GetKeyRange),
-        16 => Asked::Request(Operation::GetVersion),
-        22 => Asked::Request(Operation::Setup),
-        24 => Asked::Request(Operation::GetLog),
-        26 => Asked::Request(Operation::Security),
-        30 => Asked::Request(Operation::Noop),
-        32 => Asked::Request(Operation::FlushAllData),
+        GET => Asked::Request(Operation::Get),
+        PUT => Asked::Request(Operation::Put),
+        DELETE => Asked::Request(Operation::Delete),
+        GETNEXT => Asked::Request(Operation::GetNext),
+        GETPREVIOUS => Asked::Request(Operation::GetPrevious),
+        GETKEYRANGE => Asked::Request(Operation::GetKeyRange),
+        GETVERSION => Asked::Request(Operation::GetVersion),
+        SETUP => Asked::Request(Operation::Setup),
+        GETLOG => Asked::Request(Operation::GetLog),
+        SECURITY => Asked::Request(Operation::Security),
+        NOOP => Asked::Request(Operation::Noop),
+        FLUSHALLDATA => Asked::Request(Operation::FlushAllData),
         _ => Asked::NotBuilt,
     }
 }
@@ -41,18 +54,18 @@ fn type_of(o: Operation) -> u64
     ensures { λ r. ⌜ r ≡ typeOf o ⌝ }
 {
     match o {
-        Operation::Get => 2,
-        Operation::Put => 4,
-        Operation::Delete => 6,
-        Operation::GetNext => 8,
-        Operation::GetPrevious => 10,
-        Operation::GetKeyRange => 12,
-        Operation::GetVersion => 16,
-        Operation::Setup => 22,
-        Operation::GetLog => 24,
-        Operation::Security => 26,
-        Operation::Noop => 30,
-        Operation::FlushAllData => 32,
+        Operation::Get => GET,
+        Operation::Put => PUT,
+        Operation::Delete => DELETE,
+        Operation::GetNext => GETNEXT,
+        Operation::GetPrevious => GETPREVIOUS,
+        Operation::GetKeyRange => GETKEYRANGE,
+        Operation::GetVersion => GETVERSION,
+        Operation::Setup => SETUP,
+        Operation::GetLog => GETLOG,
+        Operation::Security => SECURITY,
+        Operation::Noop => NOOP,
+        Operation::FlushAllData => FLUSHALLDATA,
     }
 }
 
@@ -62,6 +75,6 @@ pub fn reply_type(a: Asked) -> u64
 {
     match a {
         Asked::Request(o) => type_of(o) - 1,
-        Asked::NotBuilt => 18446744073709551615,
+        Asked::NotBuilt => INVALID_MESSAGE_TYPE,
     }
 }

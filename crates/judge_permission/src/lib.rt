@@ -6,7 +6,7 @@ ghost use Rattle.access_record.specs.Table.{aclOf};
 ghost use Rattle.access_record.specs.Record.{tableOf, Placed};
 ghost use Rattle.protocol.specs.Command.{Body};
 ghost use Rattle.protocol.specs.Judge.{permitted};
-ghost use Rattle.judge_permission.specs.Given.{permissionOf, Keys};
+ghost use Rattle.judge_permission.specs.PermissionOf.{permissionOf, Keys};
 
 // What an operation needs: nothing, a permission for its key, RANGE for both range keys, or a permission for any key.
 pub enum Permission {
@@ -38,26 +38,27 @@ pub fn needed(o: Operation) -> Permission
 // The verdict on an operation with this key, or these range keys.
 pub fn permitted(
     device: &Record,
-    place: usize,
+    acl: usize,
     protected: bool,
-    o: Operation,
+    operation: Operation,
     key: &[u8],
     start: &[u8],
     end: &[u8],
 ) -> bool
-    requires { ⌜ Placed (now device) place ⌝ }
-    ensures { λ r. ⌜ ((b : Body) → Keys b (now (key .entry)) (now (start .entry)) (now (end .entry)) → r ≡ permitted (aclOf (tableOf (now (device .entry))) place) protected o b) ⌝ }
+    requires { ⌜ Placed (now device) acl ⌝ }
+    ensures { λ r. ⌜ ((b : Body) → Keys b (now (key .entry)) (now (start .entry)) (now (end .entry))
+        → r ≡ permitted (aclOf (tableOf (now (device .entry))) acl) protected operation b) ⌝ }
 {
-    match needed(o) {
+    match needed(operation) {
         Permission::Free => true,
-        Permission::Key(p) => access_verdict::verdict::permits(device, place, protected, p, key),
+        Permission::Key(p) => access_verdict::verdict::permits(device, acl, protected, p, key),
         Permission::Both => access_verdict::verdict::permits_range(
             device,
-            place,
+            acl,
             protected,
             start,
             end,
         ),
-        Permission::Any(p) => access_verdict::verdict::permits_any(device, place, protected, p),
+        Permission::Any(p) => access_verdict::verdict::permits_any(device, acl, protected, p),
     }
 }

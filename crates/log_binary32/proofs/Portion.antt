@@ -14,7 +14,7 @@ use lib.Ieee.Nearest.{closest}
 use lib.Ieee.Back.{round-whole}
 use lib.Ieee.Scale as Scale
 use lib.Ieee.Scale.{round-same}
-use Rattle.log_binary32.specs.Binary32.{rounded, portion}
+use Rattle.log_binary32.specs.Binary32.{portion}
 use Rattle.log_binary32.proofs.Pattern.{round-bits}
 
 -- ---- a / c of two values that are whole numbers

@@ -1,4 +1,4 @@
--- What is sent of a reading. Document 02, CR 1: "arrives as Celsius or as Fahrenheit, and is sent as Celsius", and "a value that isn't finite, as it would
+-- What is sent of a reading. Document 02, CR 1: "arrives as Celsius or as Fahrenheit, and is sent as Celsius", and "A value that isn't finite, as it would
 -- be sent, is omitted".
 use Prim.Native.Nat.{ℕ}
 use mathlib.Core.Bool.{Bool, cond}

@@ -13,17 +13,7 @@ use Rattle.log_binary32.specs.Binary32.{finite}
 use Rattle.log_binary32.specs.Celsius.{celsiusOf, finiteOf, sentOf, sentBits}
 use Rattle.log_binary32.specs.CelsiusLaws.{celsius-word, sent-finite}
 use Rattle.log_readings.specs.Lent.{bitsAt, lentAt, placeAt, placesFrom, temperatures, utilizations, nameGood, allNamed, readingsGood, temperatureSample, utilizationSample, sampleOf}
-
--- ---- a place that counts: inside the area, with a name that can be sent
-pub record Placed (l : List ℕ) (i : ℕ) : Type 0 where
-  pub long : length l ≡ 134
-  pub place : i < 6
-  pub named : nameGood (placeAt l i .name) ≡ true
-
--- a run of such places
-pub record Places (l : List ℕ) (first count : ℕ) : Type 0 where
-  pub few : count ≤ 4
-  pub each : (i : ℕ) → i < count → Placed l (first + i)
+use Rattle.log_readings.specs.Places.{Placed, Places, nameLength, fits}
 
 -- ---- two tests in one
 first-holds : (x y : Bool) → (x && y) ≡ true → x ≡ true
@@ -107,13 +97,6 @@ places-step l first i n h =
     let s : n - i ≡ suc (n - (i + 1)) = omega arith in
     let t : first + i + 1 ≡ first + (i + 1) = omega arith in
     ap (placesFrom l (first + i)) s ∙ ap (λ k. placeAt l (first + i) ∷ placesFrom l k (n - (i + 1))) t
-
--- ---- the code's test of a name: its length's byte. From a name's start to the end of the area there are 20 bytes or more, so that no name is cut.
-abbrev pub nameLength : List ℕ → ℕ → ℕ
-nameLength l i = getD l (3 + i * 22) 0
-
-abbrev pub fits : ℕ → Bool
-fits n = leb 1 n && leb n 16
 
 leb-same : (a b c d : ℕ) → (a ≤ b → c ≤ d) → (c ≤ d → a ≤ b) → leb a b ≡ leb c d
 leb-same a b c d f g = go (leb c d) refl

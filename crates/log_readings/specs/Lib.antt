@@ -1,2 +1,3 @@
 pub mod Lent
+pub mod Places
 pub mod LentLaws

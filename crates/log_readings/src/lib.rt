@@ -4,8 +4,8 @@ ghost use mathlib.Core.Bool.{true};
 ghost use Prim.Native.Nat.{_+_, _≤_};
 ghost use lib.ListN.{length, getD};
 ghost use Rattle.log_readings.specs.Lent.{placesFrom, allNamed, readingsGood};
-ghost use Rattle.log_readings.specs.LentLaws.{fits};
-use base_integers::count;
+ghost use Rattle.log_readings.specs.Places.{fits};
+use base_integers::as_usize::wide;
 
 fn name_fits(n: u8) -> bool
     ensures { λ r. ⌜ r ≡ fits n ⌝ }
@@ -40,11 +40,11 @@ pub fn good(s: &[u8]) -> bool
     if s.len() != 134 {
         return false;
     }
-    let t = count(s[0]);
+    let t = wide(s[0]);
     if 4 < t {
         return false;
     }
-    let u = count(s[1]);
+    let u = wide(s[1]);
     if 2 < u {
         return false;
     }
@@ -59,7 +59,7 @@ pub fn temperatures(s: &[u8]) -> usize
     requires { ⌜ readingsGood (now s) ≡ true ⌝ }
     ensures { λ r. ⌜ (r ≡ getD (now (s .entry)) 0 0) × (r ≤ 4) ⌝ }
 {
-    count(s[0])
+    wide(s[0])
 }
 
 // How many utilizations there are: the places from 4 on.
@@ -67,5 +67,5 @@ pub fn utilizations(s: &[u8]) -> usize
     requires { ⌜ readingsGood (now s) ≡ true ⌝ }
     ensures { λ r. ⌜ (r ≡ getD (now (s .entry)) 1 0) × (r ≤ 2) ⌝ }
 {
-    count(s[1])
+    wide(s[1])
 }

@@ -4,22 +4,16 @@ ghost use Prim.Native.Nat.{_+_, _≤_, _<_};
 ghost use lib.ListN.{length};
 ghost use Rattle.log_binary32.specs.Celsius.{sentBits};
 ghost use Rattle.log_readings.specs.Lent.{bitsAt, placeAt, sampleOf};
-ghost use Rattle.log_readings.specs.LentLaws.{Placed};
-use base_integers::count;
+ghost use Rattle.log_readings.specs.Places.{Placed};
+use base_integers::as_u32::wide;
 use log_binary32::Sent;
-
-fn wide(x: u8) -> u32
-    ensures { λ r. ⌜ (r ≡ x) × (r < 256) ⌝ }
-{
-    x as u32
-}
 
 pub fn name_of(s: &[u8], place: usize) -> &[u8]
     requires { ⌜ Placed (now s) place ⌝ }
     ensures { λ r. ⌜ (now r ≡ placeAt (now (s .entry)) place .name) × (1 ≤ length (now r)) × (length (now r) ≤ 16) ⌝ }
 {
     let start = 4 + place * 22;
-    let end = start + count(s[3 + place * 22]);
+    let end = start + base_integers::as_usize::wide(s[3 + place * 22]);
     &s[start..end]
 }
 

@@ -1,2 +1,2 @@
-pub mod Given
-pub mod Shows
+pub mod Shown
+pub mod ShownLaws

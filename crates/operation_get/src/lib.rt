@@ -5,7 +5,7 @@ ghost use Rattle.store_layout.specs.Store.{Good};
 ghost use Rattle.store_layout.specs.Entries.{nextIn, previousIn};
 ghost use Rattle.protocol.specs.State.{entries};
 ghost use Rattle.protocol.specs.Judge.{entryOf, entryThere};
-ghost use Rattle.operation_get.specs.Given.{Showing};
+ghost use Rattle.operation_get.specs.Shown.{Showing};
 
 // What they find: where the entry's parts lie in the store.
 pub enum Shown {

@@ -1,28 +1,27 @@
 -- Laws of DELETE.
 use mathlib.Core.Path.{_≡_, refl, sym, ap, _∙_, subst}
-use mathlib.Core.Bool.{Bool, true, false}
+use mathlib.Core.Bool.{Bool, true, false, cond, _||_}
 use mathlib.Core.List.{List}
 use mathlib.Core.Option.{Option, none, some}
 use Prim.Native.Nat.{ℕ}
 use lib.Dec.{eqb}
 use borrow.Author.Tests.{eq-eqb, ne-eqb}
-use Rattle.fields_wire.specs.Reader.{choose}
-use Rattle.access_record.specs.Table.{either, sameBytes}
+use Rattle.base_definitions.specs.Lists.{sameBytes}
 use Rattle.store_block.specs.Entry.{Entry}
 use Rattle.store_layout.specs.declared.Found as found
 use Rattle.store_layout.specs.Store.{entriesOf, Good}
 use Rattle.store_layout.specs.Entries.{findIn, deleteStore}
-use Rattle.store_layout.specs.Kept.{delete-kept}
-use Rattle.store_write.specs.Change.{kept}
-use Rattle.fields_encoding.specs.Basics.{never}
+use Rattle.store_layout.specs.KeptLaws.{delete-kept}
+use Rattle.store_write.specs.ChangeLaws.{kept}
+use Rattle.fields_encoding.specs.BasicLaws.{never}
 use Rattle.protocol.specs.State.{State}
 use Rattle.protocol.specs.Command.{KeyValue}
 use Rattle.protocol.specs.Judge.{fails, changed, entryAt, entryOf, deleteBy}
 use Rattle.operation_put.specs.declared.version.Version.{Version}
 use Rattle.operation_put.specs.declared.version.Version.the-variants.{Same, Other, Absent}
-use Rattle.operation_put.specs.VersionGiven.{versionFound}
-use Rattle.operation_put.specs.PutGiven.{Changed}
-use Rattle.operation_put.specs.DeleteGiven.{deleteCode, Deletes}
+use Rattle.operation_put.specs.VersionFound.{versionFound}
+use Rattle.operation_put.specs.PutCode.{Changed}
+use Rattle.operation_put.specs.DeleteCode.{deleteCode, Deletes}
 
 module _ {l key old : List ℕ} {f : Bool} {k : KeyValue} (g : Good l) (p : Deletes k key old f) where
   -- a key that is missing leaves every byte
@@ -41,33 +40,33 @@ module _ {l key old : List ℕ} {f : Bool} {k : KeyValue} (g : Good l) (p : Dele
   -- DELETE by how the version stands
   delete-by : (s : State) → s .store ≡ l → (o : Option Entry) → (o ≡ none → deleteStore l key ≡ l)
       → deleteBy s (record { newVersion = k .newVersion; key = key; dbVersion = old; tag = k .tag; algorithm = k .algorithm; metadataOnly = k .metadataOnly; force = f }) o
-      ≡ choose (eqb (deleteCode (versionFound old o) f) 1) (changed s (deleteStore l key)) (fails s (deleteCode (versionFound old o) f))
+      ≡ cond (eqb (deleteCode (versionFound old o) f) 1) (changed s (deleteStore l key)) (fails s (deleteCode (versionFound old o) f))
   delete-by s q none n = go f
     where
-      go : (f : Bool) → choose f (changed s (s .store)) (fails s 7) ≡ choose (eqb (deleteCode Absent f) 1) (changed s (deleteStore l key)) (fails s (deleteCode Absent f))
+      go : (f : Bool) → cond f (changed s (s .store)) (fails s 7) ≡ cond (eqb (deleteCode Absent f) 1) (changed s (deleteStore l key)) (fails s (deleteCode Absent f))
       go true = ap (changed s) (q ∙ sym (n refl))
       go false = refl
   delete-by s q (some e) n = go f (sameBytes old (e .version))
     where
       go : (f b : Bool)
-          → choose (either f b) (changed s (deleteStore (s .store) key)) (fails s 8)
-          ≡ choose (eqb (deleteCode (choose b Same Other) f) 1) (changed s (deleteStore l key)) (fails s (deleteCode (choose b Same Other) f))
+          → cond (f || b) (changed s (deleteStore (s .store) key)) (fails s 8)
+          ≡ cond (eqb (deleteCode (cond b Same Other) f) 1) (changed s (deleteStore l key)) (fails s (deleteCode (cond b Same Other) f))
       go true b = ap (λ (m : List ℕ). changed s (deleteStore m key)) q
       go false true = ap (λ (m : List ℕ). changed s (deleteStore m key)) q
       go false false = refl
 
   module _ (w : Version) (h : (s : State) → s .store ≡ l → w ≡ versionFound old (entryOf s key)) (c : ℕ) (d : c ≡ deleteCode w f) where
-    delete-whole : (s : State) → s .store ≡ l → deleteBy s k (entryOf s (k .key)) ≡ choose (eqb c 1) (changed s (deleteStore l key)) (fails s c)
+    delete-whole : (s : State) → s .store ≡ l → deleteBy s k (entryOf s (k .key)) ≡ cond (eqb c 1) (changed s (deleteStore l key)) (fails s c)
     delete-whole s q =
         ap (λ (x : List ℕ). deleteBy s k (entryOf s x)) (p .is-key)
         ∙ delete-as s q (entryOf s key)
         ∙ delete-by s q (entryOf s key) (missing s q)
-        ∙ ap (λ (c : ℕ). choose (eqb c 1) (changed s (deleteStore l key)) (fails s c)) (ap (λ (w : Version). deleteCode w f) (sym (h s q)) ∙ sym d)
+        ∙ ap (λ (c : ℕ). cond (eqb c 1) (changed s (deleteStore l key)) (fails s c)) (ap (λ (w : Version). deleteCode w f) (sym (h s q)) ∙ sym d)
 
     pub delete-wrong : (c ≡ 1 → ⊥) → Changed (λ s. deleteBy s k (entryOf s (k .key))) c l l
     delete-wrong n =
         record {
-          whole = λ s q. delete-whole s q ∙ ap (λ (t : Bool). choose t (changed s (deleteStore l key)) (fails s c)) (ne-eqb c 1 n) ∙ sym (ap (λ (t : Bool). choose t (changed s l) (fails s c)) (ne-eqb c 1 n));
+          whole = λ s q. delete-whole s q ∙ ap (λ (t : Bool). cond t (changed s (deleteStore l key)) (fails s c)) (ne-eqb c 1 n) ∙ sym (ap (λ (t : Bool). cond t (changed s l) (fails s c)) (ne-eqb c 1 n));
           kept = λ z. refl;
           good = g;
         }
@@ -76,7 +75,7 @@ module _ {l key old : List ℕ} {f : Bool} {k : KeyValue} (g : Good l) (p : Dele
     delete-right n {m} y =
         subst (λ (m : List ℕ). Changed (λ s. deleteBy s k (entryOf s (k .key))) 1 l m) (sym y)
         (record {
-          whole = λ s q. delete-whole s q ∙ ap (λ (t : Bool). choose t (changed s (deleteStore l key)) (fails s c)) (eq-eqb c 1 n);
+          whole = λ s q. delete-whole s q ∙ ap (λ (t : Bool). cond t (changed s (deleteStore l key)) (fails s c)) (eq-eqb c 1 n);
           kept = λ z. never (cc);
           good = delete-kept l g key .good;
         })

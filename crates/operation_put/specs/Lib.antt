@@ -1,8 +1,8 @@
-pub mod SetupGiven
+pub mod SetUp
 pub mod SetupLaws
-pub mod VersionGiven
+pub mod VersionFound
 pub mod VersionLaws
-pub mod PutGiven
-pub mod Changes
-pub mod DeleteGiven
+pub mod PutCode
+pub mod PutLaws
+pub mod DeleteCode
 pub mod DeleteLaws

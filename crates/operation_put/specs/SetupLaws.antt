@@ -7,7 +7,7 @@ use Rattle.fields_schema.specs.Tree.{guard}
 use Rattle.access_record.specs.Record.{withClusterVersion}
 use Rattle.protocol.specs.State.{withDevice}
 use Rattle.protocol.specs.Judge.{bare, succeeds, setUp}
-use Rattle.operation_put.specs.SetupGiven.{Set}
+use Rattle.operation_put.specs.SetUp.{Set}
 
 pub set-none : (l : List ℕ) (given : Bool) (v : ℕ) → given ≡ false → Set l (guard given v) l
 set-none l given v e =

@@ -1,6 +1,6 @@
 -- Laws of versions.
 use mathlib.Core.Path.{_≡_, refl, sym, ap, _∙_}
-use mathlib.Core.Bool.{Bool, true, false}
+use mathlib.Core.Bool.{Bool, true, false, cond, _&&_, _||_}
 use mathlib.Core.List.{List, [], _∷_}
 use mathlib.Core.Option.{Option, none, some}
 use Prim.Native.Nat.{ℕ}
@@ -8,8 +8,7 @@ use native.Mathlib.Omega.{arith}
 use lib.Dec.{eqb}
 use lib.ListN.{length}
 use borrow.Author.Tests.{eq-eqb, ne-eqb}
-use Rattle.fields_wire.specs.Reader.{choose}
-use Rattle.access_record.specs.Table.{both, either, sameBytes}
+use Rattle.base_definitions.specs.Lists.{sameBytes}
 use Rattle.store_block.specs.declared.Order.{Order}
 use Rattle.store_block.specs.Order.{cmp}
 use Rattle.store_block.specs.OrderLaws.{three, cmp-less, cmp-greater, cmp-same}
@@ -21,9 +20,9 @@ use Rattle.protocol.specs.State.{State}
 use Rattle.protocol.specs.Judge.{versionOf}
 use Rattle.operation_get.specs.declared.Shown.{Shown}
 use Rattle.operation_get.specs.declared.Shown.the-variants.{Found, Missing}
-use Rattle.operation_get.specs.Given.{entryShown, Showing}
+use Rattle.operation_get.specs.Shown.{entryShown, Showing}
 use Rattle.operation_put.specs.declared.version.Version.the-variants.{Same, Other, Absent}
-use Rattle.operation_put.specs.VersionGiven.{versionFound, versionFits}
+use Rattle.operation_put.specs.VersionFound.{versionFound, versionFits}
 
 -- ---- same bytes are those that compare as equal
 
@@ -35,9 +34,9 @@ same-cmp (x ∷ xs) [] = refl
 same-cmp (x ∷ xs) (y ∷ ys) =
     let ih = same-cmp xs ys in
     three x y
-    (λ h. ap isEqual (cmp-less x y xs ys h) ∙ sym (ap (λ (t : Bool). both t (sameBytes xs ys)) (ne-eqb x y (λ e. omega arith))))
-    (λ h. ap isEqual (cmp-greater x y xs ys h) ∙ sym (ap (λ (t : Bool). both t (sameBytes xs ys)) (ne-eqb x y (λ e. omega arith))))
-    (λ h. ap isEqual (cmp-same x y xs ys h) ∙ ih ∙ sym (ap (λ (t : Bool). both t (sameBytes xs ys)) (eq-eqb x y h)))
+    (λ h. ap isEqual (cmp-less x y xs ys h) ∙ sym (ap (λ (t : Bool). (t && sameBytes xs ys)) (ne-eqb x y (λ e. omega arith))))
+    (λ h. ap isEqual (cmp-greater x y xs ys h) ∙ sym (ap (λ (t : Bool). (t && sameBytes xs ys)) (ne-eqb x y (λ e. omega arith))))
+    (λ h. ap isEqual (cmp-same x y xs ys h) ∙ ih ∙ sym (ap (λ (t : Bool). (t && sameBytes xs ys)) (eq-eqb x y h)))
 
 pub by-cmp : (a b : List ℕ) (o : Order) → o ≡ cmp a b → isEqual o ≡ sameBytes a b
 by-cmp a b o e = ap isEqual e ∙ same-cmp a b
@@ -49,21 +48,21 @@ unfolding sameBytes
 no-bytes [] = refl
 no-bytes (x ∷ xs) = ne-eqb (length (x ∷ xs)) 0 (λ e. omega arith)
 
-pub version-fits : (old : List ℕ) (f : Bool) (o : Option Entry) → versionFits (versionFound old o) old f ≡ either f (sameBytes old (versionOf o))
+pub version-fits : (old : List ℕ) (f : Bool) (o : Option Entry) → versionFits (versionFound old o) old f ≡ (f || sameBytes old (versionOf o))
 version-fits old true none = refl
 version-fits old true (some e) = refl
 version-fits old false none = no-bytes old
 version-fits old false (some e) = go (sameBytes old (e .version))
   where
-    go : (b : Bool) → versionFits (choose b Same Other) old false ≡ b
+    go : (b : Bool) → versionFits (cond b Same Other) old false ≡ b
     go true = refl
     go false = refl
 
 -- how a version stands to that of the entry that was found
 pub version-found : (old : List ℕ) {l : List ℕ} {r : Shown} {of : State → Option Entry} {p : Parts} → Showing l r of → r ≡ Found p
-    → (b : Bool) → b ≡ sameBytes old (partOf l (p .version)) → (s : State) → s .store ≡ l → choose b Same Other ≡ versionFound old (of s)
+    → (b : Bool) → b ≡ sameBytes old (partOf l (p .version)) → (s : State) → s .store ≡ l → cond b Same Other ≡ versionFound old (of s)
 version-found old {l} h e b c s q =
-    ap (λ (b : Bool). choose b Same Other) c ∙ ap (λ (r : Shown). versionFound old (entryShown l r)) (sym e) ∙ ap (versionFound old) (h .same s q)
+    ap (λ (b : Bool). cond b Same Other) c ∙ ap (λ (r : Shown). versionFound old (entryShown l r)) (sym e) ∙ ap (versionFound old) (h .same s q)
 
 pub version-none : (old : List ℕ) {l : List ℕ} {r : Shown} {of : State → Option Entry} → Showing l r of → r ≡ Missing
     → (s : State) → s .store ≡ l → Absent ≡ versionFound old (of s)

@@ -1,4 +1,4 @@
-// Document 01, "What each does": SETUP over the lent record. Document 01, "What each does": the dbVersion of PUT and DELETE against the stored version. Document 01, "What each does": PUT over the lent store. Document 01, "What each does": DELETE over the lent store.
+// Document 01, "What each does": PUT, DELETE and SETUP, and a dbVersion against the stored version.
 pub mod delete;
 pub mod put;
 pub mod setup;

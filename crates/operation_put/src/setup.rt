@@ -1,7 +1,7 @@
 // Document 01, "What each does": SETUP over the lent record.
 use access_record::Record;
 ghost use Rattle.fields_schema.specs.Tree.{guard};
-ghost use Rattle.operation_put.specs.SetupGiven.{Set};
+ghost use Rattle.operation_put.specs.SetUp.{Set};
 
 pub fn setup(device: &mut Record, given: bool, version: u64)
     ensures { λ _. ⌜ Set (now (device .entry)) (guard given version) (now (device .exit)) ⌝ }

@@ -2,11 +2,11 @@
 use operation_get::Shown;
 use store_block::Order;
 ghost use mathlib.Core.Path.{_≡_};
-ghost use Rattle.access_record.specs.Table.{sameBytes};
+ghost use Rattle.base_definitions.specs.Lists.{sameBytes};
 ghost use Rattle.store_layout.specs.Store.{Good};
 ghost use Rattle.protocol.specs.State.{State};
 ghost use Rattle.protocol.specs.Judge.{entryOf};
-ghost use Rattle.operation_put.specs.VersionGiven.{versionFound, versionFits};
+ghost use Rattle.operation_put.specs.VersionFound.{versionFound, versionFits};
 
 // How a dbVersion stands to the stored version under a key.
 pub enum Version {

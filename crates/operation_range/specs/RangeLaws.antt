@@ -1,24 +1,24 @@
 -- The keys of a range are those of one run of places: in a sorted store the entries of a range stand together.
 use mathlib.Core.Path.{_≡_, refl, sym, ap, ap₂, _∙_}
-use mathlib.Core.Bool.{Bool, true, false, not}
+use mathlib.Core.Bool.{Bool, true, false, not, cond, _&&_, _||_}
 use mathlib.Core.List.{List, [], _∷_, _++_, reverse, reverse-cons}
 use Prim.Native.Nat.{ℕ, zero, suc, _+_, _-_, _≤_, min}
 use native.Mathlib.Omega.{arith}
 use native.Mathlib.Decide.{decLe}
 use lib.ListN.{length, take}
-use Rattle.fields_wire.specs.Reader.{choose}
-use Rattle.access_record.specs.Table.{both, either}
 use Rattle.store_block.specs.declared.Order.{Order}
 use Rattle.store_block.specs.declared.Order.the-variants.{Less, Equal, Greater}
 use Rattle.store_block.specs.Order.{cmp}
-use Rattle.store_block.specs.OrderLaws.{cmp-equal, cmp-flip, flip}
+use Rattle.store_block.specs.OrderLaws.{cmp-equal, cmp-flip}
+use Rattle.store_block.specs.Flip.{flip}
 use Rattle.store_block.specs.Block.{isLess, isEqual}
 use Rattle.store_block.specs.Entry.{Entry}
 use Rattle.store_layout.specs.Store.{entriesOf, Above, Sorted, Good}
 use Rattle.store_layout.specs.StoreLaws.{room}
 use Rattle.store_layout.specs.Entries.{byOrder, below, upTo}
 use Rattle.store_layout.specs.EntriesLaws.{none-below, none-upTo, above-next, below-most, upTo-most}
-use Rattle.protocol.specs.Command.{Range, orElse}
+use Rattle.base_definitions.specs.Options.{orElse}
+use Rattle.protocol.specs.Command.{Range}
 use Rattle.protocol.specs.Judge.{inRange, keysIn, keysOf}
 use Rattle.operation_range.specs.Keys.{keyAt, onward, keysFrom, Run}
 use Rattle.operation_range.specs.KeysLaws.{onward-none, onward-next}
@@ -71,12 +71,12 @@ keys-reverse first (suc n) es =
 
 abbrev number : (Entry → Bool) → List Entry → ℕ
 number p [] = 0
-number p (e ∷ es) = choose (p e) (1 + number p es) (number p es)
+number p (e ∷ es) = cond (p e) (1 + number p es) (number p es)
 
 -- the keys that pass one test and not the other
 abbrev between : (Entry → Bool) → (Entry → Bool) → List Entry → List (List ℕ)
 between p q [] = []
-between p q (e ∷ es) = choose (both (not (p e)) (q e)) (e .key ∷ between p q es) (between p q es)
+between p q (e ∷ es) = cond (not (p e) && q e) (e .key ∷ between p q es) (between p q es)
 
 -- past one that fails none passes
 abbrev Falls : (Entry → Bool) → List Entry → Type 0
@@ -90,8 +90,8 @@ together p q (e ∷ es) f g = go (p e) (q e) (f .0) (g .0) (together p q es (f .
   where
     go : (a b : Bool) → (a ≡ false → number p es ≡ 0) → (b ≡ false → number q es ≡ 0)
         → between p q es ≡ keysFrom false (number p es) (number q es - number p es) es
-        → choose (both (not a) b) (e .key ∷ between p q es) (between p q es)
-        ≡ keysFrom false (choose a (1 + number p es) (number p es)) (choose b (1 + number q es) (number q es) - choose a (1 + number p es) (number p es)) (e ∷ es)
+        → cond (not a && b) (e .key ∷ between p q es) (between p q es)
+        ≡ keysFrom false (cond a (1 + number p es) (number p es)) (cond b (1 + number q es) (number q es) - cond a (1 + number p es) (number p es)) (e ∷ es)
     go true true x y ih =
         let z : 1 + number p es ≡ suc (number p es) = omega arith in
         let w : number q es - number p es ≡ 1 + number q es - (1 + number p es) = omega arith in
@@ -123,7 +123,7 @@ number-below k [] = refl
 number-below k (e ∷ es) = go (cmp (e .key) k) (number-below k es)
   where
     go : (o : Order) → number (under false k) es ≡ below k es
-        → choose (byOrder o true false false) (1 + number (under false k) es) (number (under false k) es) ≡ byOrder o (1 + below k es) (below k es) (below k es)
+        → cond (byOrder o true false false) (1 + number (under false k) es) (number (under false k) es) ≡ byOrder o (1 + below k es) (below k es) (below k es)
     go Less ih = ap (λ n. 1 + n) ih
     go Equal ih = ih
     go Greater ih = ih
@@ -134,7 +134,7 @@ number-upTo k [] = refl
 number-upTo k (e ∷ es) = go (cmp (e .key) k) (number-upTo k es)
   where
     go : (o : Order) → number (under true k) es ≡ upTo k es
-        → choose (byOrder o true true false) (1 + number (under true k) es) (number (under true k) es) ≡ byOrder o (1 + upTo k es) (1 + upTo k es) (upTo k es)
+        → cond (byOrder o true true false) (1 + number (under true k) es) (number (under true k) es) ≡ byOrder o (1 + upTo k es) (1 + upTo k es) (upTo k es)
     go Less ih = ap (λ n. 1 + n) ih
     go Equal ih = ap (λ n. 1 + n) ih
     go Greater ih = ih
@@ -155,11 +155,11 @@ falls b k (e ∷ es) s = (λ h. number-none b k es (go b (cmp (e .key) k) refl h
     go b Greater c h = above-next k e es (cmp-flip (e .key) k ∙ ap flip c) (s .0)
 
 -- what a range asks of a key, by the two bounds
-past-start : (b : Bool) (s k : List ℕ) → either (isLess (cmp s k)) (both b (isEqual (cmp s k))) ≡ not (byOrder (cmp k s) true (not b) false)
+past-start : (b : Bool) (s k : List ℕ) → (isLess (cmp s k) || (b && isEqual (cmp s k))) ≡ not (byOrder (cmp k s) true (not b) false)
 unfolding byOrder isLess isEqual
-past-start b s k = ap (λ o. either (isLess o) (both b (isEqual o))) (cmp-flip k s) ∙ go b (cmp k s)
+past-start b s k = ap (λ o. (isLess o || (b && isEqual o))) (cmp-flip k s) ∙ go b (cmp k s)
   where
-    go : (b : Bool) (o : Order) → either (isLess (flip o)) (both b (isEqual (flip o))) ≡ not (byOrder o true (not b) false)
+    go : (b : Bool) (o : Order) → (isLess (flip o) || (b && isEqual (flip o))) ≡ not (byOrder o true (not b) false)
     go true Less = refl
     go true Equal = refl
     go true Greater = refl
@@ -167,7 +167,7 @@ past-start b s k = ap (λ o. either (isLess o) (both b (isEqual o))) (cmp-flip k
     go false Equal = refl
     go false Greater = refl
 
-by-end : (b : Bool) (o : Order) → either (isLess o) (both b (isEqual o)) ≡ byOrder o true b false
+by-end : (b : Bool) (o : Order) → (isLess o || (b && isEqual o)) ≡ byOrder o true b false
 unfolding byOrder isLess isEqual
 by-end b Less = refl
 by-end true Equal = refl
@@ -187,19 +187,19 @@ in-between r [] = refl
 in-between r (e ∷ es) =
     let a = past-start (r .startInclusive) (orElse [] (r .startKey)) (e .key) in
     let b = by-end (r .endInclusive) (cmp (e .key) (orElse [] (r .endKey))) in
-    ap₂ (λ t ks. choose t (e .key ∷ ks) ks) (ap₂ both a b) (in-between r es)
+    ap₂ (λ t ks. cond t (e .key ∷ ks) ks) (ap₂ _&&_ a b) (in-between r es)
 
 number-early : (r : Range) (es : List Entry) → number (early r) es ≡ before r es
 number-early r es = go (r .startInclusive)
   where
-    go : (b : Bool) → number (under (not b) (orElse [] (r .startKey))) es ≡ choose b (below (orElse [] (r .startKey)) es) (upTo (orElse [] (r .startKey)) es)
+    go : (b : Bool) → number (under (not b) (orElse [] (r .startKey))) es ≡ cond b (below (orElse [] (r .startKey)) es) (upTo (orElse [] (r .startKey)) es)
     go true = number-below (orElse [] (r .startKey)) es
     go false = number-upTo (orElse [] (r .startKey)) es
 
 number-reached : (r : Range) (es : List Entry) → number (reached r) es ≡ upToEnd r es
 number-reached r es = go (r .endInclusive)
   where
-    go : (b : Bool) → number (under b (orElse [] (r .endKey))) es ≡ choose b (upTo (orElse [] (r .endKey)) es) (below (orElse [] (r .endKey)) es)
+    go : (b : Bool) → number (under b (orElse [] (r .endKey))) es ≡ cond b (upTo (orElse [] (r .endKey)) es) (below (orElse [] (r .endKey)) es)
     go true = number-upTo (orElse [] (r .endKey)) es
     go false = number-below (orElse [] (r .endKey)) es
 
@@ -215,8 +215,8 @@ pub keys-of : (r : Range) (es : List Entry) → Sorted es → keysOf r es ≡ ke
 unfolding keysOf
 keys-of r es s = go (r .reverse)
   where
-    go : (v : Bool) → take (r .maxReturned) (choose v (reverse (keysIn r es)) (keysIn r es))
-        ≡ keysFrom v (choose v (upToEnd r es - 1) (before r es)) (countOf r es) es
+    go : (v : Bool) → take (r .maxReturned) (cond v (reverse (keysIn r es)) (keysIn r es))
+        ≡ keysFrom v (cond v (upToEnd r es - 1) (before r es)) (countOf r es) es
     go false = ap (take (r .maxReturned)) (keys-in r es s) ∙ take-keys false (r .maxReturned) (before r es) (upToEnd r es - before r es) es
     go true =
         ap (λ ks. take (r .maxReturned) (reverse ks)) (keys-in r es s)
@@ -232,14 +232,14 @@ keys-of r es s = go (r .reverse)
 before-most : (r : Range) (es : List Entry) → before r es ≤ length es
 before-most r es = go (r .startInclusive)
   where
-    go : (b : Bool) → choose b (below (orElse [] (r .startKey)) es) (upTo (orElse [] (r .startKey)) es) ≤ length es
+    go : (b : Bool) → cond b (below (orElse [] (r .startKey)) es) (upTo (orElse [] (r .startKey)) es) ≤ length es
     go true = below-most (orElse [] (r .startKey)) es
     go false = upTo-most (orElse [] (r .startKey)) es
 
 upToEnd-most : (r : Range) (es : List Entry) → upToEnd r es ≤ length es
 upToEnd-most r es = go (r .endInclusive)
   where
-    go : (b : Bool) → choose b (upTo (orElse [] (r .endKey)) es) (below (orElse [] (r .endKey)) es) ≤ length es
+    go : (b : Bool) → cond b (upTo (orElse [] (r .endKey)) es) (below (orElse [] (r .endKey)) es) ≤ length es
     go true = upTo-most (orElse [] (r .endKey)) es
     go false = below-most (orElse [] (r .endKey)) es
 
@@ -254,19 +254,19 @@ range-run r l g h =
     record { near = go (r .reverse) x y; few = omega arith; inside = λ e. rw e (omega arith) }
   where
     go : (v : Bool) → before r (entriesOf l) ≤ length (entriesOf l) → upToEnd r (entriesOf l) ≤ length (entriesOf l)
-        → choose v (upToEnd r (entriesOf l) - 1) (before r (entriesOf l)) ≤ 128
+        → cond v (upToEnd r (entriesOf l) - 1) (before r (entriesOf l)) ≤ 128
     go true x y = let m = g .most in omega (arith, room l)
     go false x y = let m = g .most in omega (arith, room l)
 
 -- the run that range_places finds
-pub places-law : (s e : List ℕ) (a b : Bool) (n : ℕ) (v : Bool) (es : List Entry) (p : Places) (low high : ℕ) → low ≡ choose a (below s es) (upTo s es)
-    → high ≡ choose (not b) (below e es) (upTo e es) → p .first ≡ choose v (high - 1) low → p .count ≡ min n (high - low) → PlacesOf (rangeWith s e a b n v) es p
+pub places-law : (s e : List ℕ) (a b : Bool) (n : ℕ) (v : Bool) (es : List Entry) (p : Places) (low high : ℕ) → low ≡ cond a (below s es) (upTo s es)
+    → high ≡ cond (not b) (below e es) (upTo e es) → p .first ≡ cond v (high - 1) low → p .count ≡ min n (high - low) → PlacesOf (rangeWith s e a b n v) es p
 places-law s e a b n v es p low high x y f c = record {
-  first = f ∙ ap₂ (λ (h l : ℕ). choose v (h - 1) l) (y ∙ turned b (below e es) (upTo e es)) x;
+  first = f ∙ ap₂ (λ (h l : ℕ). cond v (h - 1) l) (y ∙ turned b (below e es) (upTo e es)) x;
   count = c ∙ ap₂ (λ (h l : ℕ). min n (h - l)) (y ∙ turned b (below e es) (upTo e es)) x;
 }
   where
-    turned : (b : Bool) (x y : ℕ) → choose (not b) x y ≡ choose b y x
+    turned : (b : Bool) (x y : ℕ) → cond (not b) x y ≡ cond b y x
     turned true x y = refl
     turned false x y = refl
 

@@ -1,30 +1,29 @@
 -- What step 8 leaves known of a body that passes it: the part that the operation uses is there.
 use mathlib.Core.Path.{_≡_, refl, sym, ap, _∙_, subst}
-use mathlib.Core.Bool.{Bool, true, false}
+use mathlib.Core.Bool.{Bool, true, false, cond, _&&_}
 use mathlib.Core.List.{List, []}
 use mathlib.Core.Option.{Option, none, some}
 use Prim.Native.Nat.{ℕ, _≤_}
 use native.Mathlib.Omega.{arith}
 use lib.Dec.{leb}
 use lib.ListN.{length}
-use Rattle.fields_wire.specs.Reader.{choose}
 use Rattle.fields_schema.specs.Tree.{guard, isSome}
-use Rattle.access_record.specs.Table.{both}
 use Rattle.fields_lookup.specs.Views.{numView}
 use Rattle.store_layout.specs.Entries.{nextIn, previousIn}
 use Rattle.protocol.specs.declared.Operation.{Operation}
 use Rattle.protocol.specs.declared.Operation.the-variants.{Noop, Get, GetVersion, GetNext, GetPrevious, GetKeyRange, Put, Delete, FlushAllData, Setup, GetLog, Security}
 use Rattle.protocol.specs.State.{State, entries}
 use Rattle.protocol.specs.Command as command
-use Rattle.protocol.specs.Command.{orElse}
-use Rattle.protocol.specs.Judge.{algorithmsGood, broken, changeGood, deleteBy, entryOf, entryThere, fault, isEmpty, keyValueGood, keyValueIn, keysOf, logged, noKeyValue, noRange, present, put, range, rangeGood, rangeIn, secure, securityGood, setUp, shown, step10, succeeds, typesGood, versionShown}
-use Rattle.judge_body_rules.specs.Passed.{put-passed, range-passed}
+use Rattle.base_definitions.specs.Lists.{isEmpty}
+use Rattle.base_definitions.specs.Options.{orElse}
+use Rattle.protocol.specs.Judge.{algorithmsGood, broken, changeGood, deleteBy, entryOf, entryThere, fault, keyValueGood, keyValueIn, keysOf, logged, noKeyValue, noRange, present, put, range, rangeGood, rangeIn, secure, securityGood, setUp, shown, step10, succeeds, typesGood, versionShown}
+use Rattle.judge_body_rules.specs.PassedLaws.{put-passed, range-passed}
 use Rattle.request_command.specs.declared.Body.{Body}
 use Rattle.request_parts.specs.Views.{keyValueView, rangeView}
 use Rattle.request_command.specs.Views.{bodyView}
 use Rattle.request_scope.specs.Stands.{aclsIn}
 use Rattle.request_merged.specs.Types.{logTypes}
-use Rattle.reply_send.specs.declared.send.Address.{Address}
+use Rattle.reply_command.specs.declared.ReplyTo.{ReplyTo}
 use Rattle.reply_send.specs.Sent.{Sent, replied}
 use Rattle.reply_send.specs.SentLaws.{sent-as}
 
@@ -36,12 +35,12 @@ there : {A : Type 0} (d : A) (f : Option A → Bool) → f none ≡ false → (h
 there d f n true x e = refl
 there d f n false x e = never (sym n ∙ e)
 
-beside : (x y : Bool) → broken (both x y) ≡ 0 → y ≡ true
+beside : (x y : Bool) → broken (x && y) ≡ 0 → y ≡ true
 beside true true e = refl
 beside true false e = absurd (omega arith)
 beside false y e = absurd (omega arith)
 
-beside-tables : (x y : Bool) (n : ℕ) → choose (both x y) n 16 ≡ 0 → y ≡ true
+beside-tables : (x y : Bool) (n : ℕ) → cond (x && y) n 16 ≡ 0 → y ≡ true
 beside-tables true true n e = refl
 beside-tables true false n e = absurd (omega arith)
 beside-tables false y n e = absurd (omega arith)
@@ -58,14 +57,14 @@ wholeView s b =
     }
 
 module _ (s : List ℕ) (b : Body) (v : List ℕ) where
-  keyed : (x : Bool) (f : command.KeyValue → Bool) → broken (both x (present f (bodyView s b .keyValue))) ≡ 0 → keyValueIn (bodyView s b) ≡ keyValueView s (b .entry)
+  keyed : (x : Bool) (f : command.KeyValue → Bool) → broken (x && present f (bodyView s b .keyValue)) ≡ 0 → keyValueIn (bodyView s b) ≡ keyValueView s (b .entry)
   keyed x f e = there noKeyValue (present f) refl (b .keyed) (keyValueView s (b .entry)) (beside x (present f (bodyView s b .keyValue)) e)
 
   ranged : fault GetKeyRange (bodyView s b) v ≡ 0 → rangeIn (bodyView s b) ≡ rangeView s (b .range)
   ranged e = there noRange (present rangeGood) refl (b .ranged) (rangeView s (b .range)) (beside (isEmpty v) (present rangeGood (bodyView s b .range)) e)
 
   tabled : fault Security (bodyView s b) v ≡ 0 → present securityGood (bodyView s b .security) ≡ true
-  tabled e = beside-tables (isEmpty v) (present securityGood (bodyView s b .security)) (choose (present algorithmsGood (bodyView s b .security)) 0 15) e
+  tabled e = beside-tables (isEmpty v) (present securityGood (bodyView s b .security)) (cond (present algorithmsGood (bodyView s b .security)) 0 15) e
 
   -- what PUT, GETKEYRANGE and SECURITY require
   pub put-good : fault Put (bodyView s b) v ≡ 0 → (keyValueGood (keyValueView s (b .entry)) ≡ true) × (length v ≤ 384)
@@ -111,6 +110,6 @@ module _ (s : List ℕ) (b : Body) (v : List ℕ) where
   step-whole t Security e =
       ap (secure t) (there [] (present securityGood) refl (b .security .has) (aclsIn s (b .security)) (tabled e))
 
-  pub performed : (a : Address) (by : List ℕ) (t : State) {o o' : Operation} {n : ℕ} {out out' : List ℕ} {t' : State} → fault o (bodyView s b) v ≡ 0 → o ≡ o'
+  pub performed : (a : ReplyTo) (by : List ℕ) (t : State) {o o' : Operation} {n : ℕ} {out out' : List ℕ} {t' : State} → fault o (bodyView s b) v ≡ 0 → o ≡ o'
       → Sent (replied a by (step10 t o' (wholeView s b) v)) n out out' t' → Sent (replied a by (step10 t o (bodyView s b) v)) n out out' t'
   performed a by t {o} f e h = sent-as a by (sym (step-whole t o f ∙ ap (λ (o : Operation). step10 t o (wholeView s b) v) e)) h

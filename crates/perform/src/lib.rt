@@ -10,7 +10,8 @@ use perform_put_delete::delete;
 use perform_put_delete::put;
 use perform_range::get_key_range;
 use protocol::Operation;
-use reply_send::send::Address;
+use protocol::status::SUCCESS;
+use reply_command::ReplyTo;
 use reply_send::send::status;
 use request_command::Body;
 ghost use mathlib.Core.Path.{_≡_};
@@ -20,62 +21,99 @@ ghost use lib.ListN.{length};
 ghost use Rattle.store_layout.specs.Store.{Good};
 ghost use Rattle.log_readings.specs.Lent.{readingsGood};
 ghost use Rattle.fields_lookup.specs.Views.{numView};
-ghost use Rattle.protocol.specs.State.{Connection, State, lent, withDevice};
+ghost use Rattle.protocol.specs.State.{Connection, State, withDevice};
 ghost use Rattle.protocol.specs.Judge.{setUp, secure, securityGood, fault, step10};
 ghost use Rattle.request_command.specs.Views.{BodyLies, bodyView};
 ghost use Rattle.request_scope.specs.Stands.{StandsSecurity, aclsIn};
-ghost use Rattle.reply_send.specs.Sent.{Sent, replied};
+ghost use Rattle.reply_send.specs.Sent.{replied};
+ghost use Rattle.reply_send.specs.Answers.{Answers, before, after};
 
 // ---- SETUP, SECURITY
 
-fn setup(out: &mut [u8], by: &[u8], a: Address, device: &mut Record, version: Num) -> usize
-    requires { ⌜ (4096 ≤ length (now out)) × (length (now by) ≤ 64) ⌝ }
-    ensures { λ r. ⌜ ((t : State) → t .device ≡ now (device .entry) → Sent (replied a (now (by .entry)) (setUp t (numView version))) r (now (out .entry)) (now (out .exit)) (withDevice t (now (device .exit)))) ⌝ }
+fn setup(
+    out: &mut [u8],
+    signing_key: &[u8],
+    reply_to: ReplyTo,
+    device: &mut Record,
+    version: Num,
+) -> usize
+    requires { ⌜ (4096 ≤ length (now out)) × (length (now «signing_key») ≤ 64) ⌝ }
+    ensures { λ r. ⌜ ((t : State) → t .device ≡ now (device .entry)
+        → Answers (λ s. replied «reply_to» (now («signing_key» .entry)) (setUp s (numView version))) t out r (withDevice t (now (device .exit)))) ⌝ }
 {
     operation_put::setup::setup(device, version.has, version.value);
-    status(out, by, a, 1)
+    status(out, signing_key, reply_to, SUCCESS)
 }
 
 // The table judged in step 8, written over the old one.
-fn secure(out: &mut [u8], by: &[u8], a: Address, device: &mut Record, s: &[u8], p: Part) -> usize
-    requires { ⌜ (4096 ≤ length (now out)) × (length (now by) ≤ 64) × StandsSecurity (now s) p × (securityGood (aclsIn (now s) p) ≡ true) ⌝ }
-    ensures { λ r. ⌜ ((t : State) → t .device ≡ now (device .entry) → Sent (replied a (now (by .entry)) (secure t (aclsIn (now (s .entry)) p))) r (now (out .entry)) (now (out .exit)) (withDevice t (now (device .exit)))) ⌝ }
+fn secure(
+    out: &mut [u8],
+    signing_key: &[u8],
+    reply_to: ReplyTo,
+    device: &mut Record,
+    command: &[u8],
+    security: Part,
+) -> usize
+    requires { ⌜ (4096 ≤ length (now out)) × (length (now «signing_key») ≤ 64) × StandsSecurity (now command) security
+        × (securityGood (aclsIn (now command) security) ≡ true) ⌝ }
+    ensures { λ r. ⌜ ((t : State) → t .device ≡ now (device .entry)
+        → let acls = aclsIn (now (command .entry)) security in
+        Answers (λ s. replied «reply_to» (now («signing_key» .entry)) (secure s acls)) t out r (withDevice t (now (device .exit)))) ⌝ }
 {
     let version = access_record::cluster_version(device);
-    request_security::security_table(s, p, version, device);
-    status(out, by, a, 1)
+    request_security::security_table(command, security, version, device);
+    status(out, signing_key, reply_to, SUCCESS)
 }
 
 // ---- step 10
 
-// The operation that was asked for, with a body that step 8 found right.
+// An operation to be done, with its body, and to whom its reply goes.
+pub struct Job {
+    pub operation: Operation,
+    pub body: Body,
+    pub reply_to: ReplyTo,
+}
+
+// The operation of a job, with a body that step 8 found right.
 pub fn perform(
-    o: Operation,
     store: &mut [u8],
     device: &mut Record,
     readings: &[u8],
-    s: &[u8],
-    b: Body,
+    job: Job,
+    command: &[u8],
     value: &[u8],
     out: &mut [u8],
-    by: &[u8],
-    a: Address,
+    signing_key: &[u8],
 ) -> usize
-    requires { ⌜ (4096 ≤ length (now out)) × (length (now by) ≤ 64) × Good (now store) × BodyLies (now s) b × (fault o (bodyView (now s) b) (now value) ≡ 0) × (readingsGood (now readings) ≡ true) ⌝ }
-    ensures { λ r. ⌜ ((c : Connection) → Sent (replied a (now (by .entry)) (step10 (lent (now (store .entry)) (now (device .entry)) (now (readings .entry)) c) o (bodyView (now (s .entry)) b) (now (value .entry)))) r (now (out .entry)) (now (out .exit)) (lent (now (store .exit)) (now (device .exit)) (now (readings .entry)) c)) ⌝ }
+    requires { ⌜ (4096 ≤ length (now out)) × (length (now «signing_key») ≤ 64) × Good (now store) × BodyLies (now command) (job .body)
+        × (fault (job .operation) (bodyView (now command) (job .body)) (now value) ≡ 0) × (readingsGood (now readings) ≡ true) ⌝ }
+    ensures { λ r. ⌜ ((c : Connection)
+        → let body = bodyView (now (command .entry)) (job .body) in
+        Answers (λ s. replied (job .«reply_to») (now («signing_key» .entry)) (step10 s (job .operation) body (now (value .entry))))
+        (before store device readings c) out r (after store device readings c)) ⌝ }
 {
-    match o {
-        Operation::Noop => status(out, by, a, 1),
-        Operation::FlushAllData => status(out, by, a, 1),
-        Operation::Get => get(out, by, a, Which::Own, store, s, b.entry),
-        Operation::GetVersion => get_version(out, by, a, store, s, b.entry),
-        Operation::GetNext => get(out, by, a, Which::Next, store, s, b.entry),
-        Operation::GetPrevious => get(out, by, a, Which::Previous, store, s, b.entry),
-        Operation::GetKeyRange => get_key_range(out, by, a, store, s, b.range),
-        Operation::Put => put(out, by, a, store, s, b.entry, value),
-        Operation::Delete => delete(out, by, a, store, s, b.entry),
-        Operation::Setup => setup(out, by, a, device, b.cluster),
-        Operation::GetLog => get_log(out, by, a, store, readings, s),
-        Operation::Security => secure(out, by, a, device, s, b.security),
+    let operation = job.operation;
+    let to = job.reply_to;
+    let entry = job.body.entry;
+    match operation {
+        Operation::Noop => status(out, signing_key, to, SUCCESS),
+        Operation::FlushAllData => status(out, signing_key, to, SUCCESS),
+        Operation::Get => get(out, signing_key, to, Which::Own, store, command, entry),
+        Operation::GetVersion => get_version(out, signing_key, to, store, command, entry),
+        Operation::GetNext => get(out, signing_key, to, Which::Next, store, command, entry),
+        Operation::GetPrevious => get(out, signing_key, to, Which::Previous, store, command, entry),
+        Operation::GetKeyRange => get_key_range(
+            out,
+            signing_key,
+            to,
+            store,
+            command,
+            job.body.range,
+        ),
+        Operation::Put => put(out, signing_key, to, store, command, entry, value),
+        Operation::Delete => delete(out, signing_key, to, store, command, entry),
+        Operation::Setup => setup(out, signing_key, to, device, job.body.cluster),
+        Operation::GetLog => get_log(out, signing_key, to, store, readings, command),
+        Operation::Security => secure(out, signing_key, to, device, command, job.body.security),
     }
 }

@@ -1,9 +1,10 @@
 // GET, GETVERSION, GETNEXT and GETPREVIOUS: what the store has under a key or beside it, shown in a reply.
 use operation_get::Shown;
 use perform_entry::show;
-use reply_send::send::Address;
+use protocol::status::NOT_FOUND;
+use reply_command::ReplyTo;
+use reply_send::send::key_value_reply;
 use reply_send::send::status;
-use reply_send::send::version;
 use request_command::numbers::flag_of;
 use request_parts::KeyValue;
 ghost use mathlib.Core.Path.{_≡_};
@@ -12,23 +13,31 @@ ghost use lib.ListN.{length};
 ghost use Rattle.store_layout.specs.Store.{Good};
 ghost use Rattle.protocol.specs.State.{State};
 ghost use Rattle.protocol.specs.Judge.{shown, versionShown, entryOf};
-ghost use Rattle.operation_get.specs.Given.{PartsInside, Showing, entryShown};
+ghost use Rattle.operation_get.specs.Shown.{PartsInside, Showing, entryShown};
 ghost use Rattle.request_parts.specs.Views.{KeyValueLies, keyValueView};
 ghost use Rattle.perform_get.specs.Sought.{sought};
-ghost use Rattle.reply_send.specs.Sent.{Sent, replied};
+ghost use Rattle.reply_send.specs.Sent.{replied};
+ghost use Rattle.reply_send.specs.Answers.{Answers};
 
 // The version of an entry, or NOT_FOUND.
-fn show_version(out: &mut [u8], by: &[u8], a: Address, store: &[u8], found: Shown) -> usize
-    requires { ⌜ (4096 ≤ length (now out)) × (length (now by) ≤ 64) × PartsInside (now store) found ⌝ }
-    ensures { λ r. ⌜ ((s : State) → Sent (replied a (now (by .entry)) (versionShown s (entryShown (now (store .entry)) found))) r (now (out .entry)) (now (out .exit)) s) ⌝ }
+fn show_version(
+    out: &mut [u8],
+    signing_key: &[u8],
+    reply_to: ReplyTo,
+    store: &[u8],
+    found: Shown,
+) -> usize
+    requires { ⌜ (4096 ≤ length (now out)) × (length (now «signing_key») ≤ 64) × PartsInside (now store) found ⌝ }
+    ensures { λ r. ⌜ ((t : State)
+        → Answers (λ s. replied «reply_to» (now («signing_key» .entry)) (versionShown s (entryShown (now (store .entry)) found))) t out r t) ⌝ }
 {
     match found {
-        Shown::Found(p) => {
-            let start = p.version.start;
-            let end = start + p.version.len;
-            version(out, by, a, &store[start..end])
+        Shown::Found(parts) => {
+            let start = parts.version.start;
+            let end = start + parts.version.len;
+            key_value_reply(out, signing_key, reply_to, &store[start..end])
         }
-        Shown::Missing => status(out, by, a, 7),
+        Shown::Missing => status(out, signing_key, reply_to, NOT_FOUND),
     }
 }
 
@@ -52,34 +61,46 @@ fn find_entry(which: Which, store: &[u8], key: &[u8]) -> Shown
 
 pub fn get(
     out: &mut [u8],
-    by: &[u8],
-    a: Address,
+    signing_key: &[u8],
+    reply_to: ReplyTo,
     which: Which,
     store: &[u8],
-    s: &[u8],
-    k: KeyValue,
+    command: &[u8],
+    key_value: KeyValue,
 ) -> usize
-    requires { ⌜ (4096 ≤ length (now out)) × (length (now by) ≤ 64) × Good (now store) × KeyValueLies (now s) k ⌝ }
-    ensures { λ r. ⌜ ((t : State) → t .store ≡ now (store .entry) → Sent (replied a (now (by .entry)) (shown t (keyValueView (now (s .entry)) k .metadataOnly) (sought which t (keyValueView (now (s .entry)) k .key)))) r (now (out .entry)) (now (out .exit)) t) ⌝ }
+    requires { ⌜ (4096 ≤ length (now out)) × (length (now «signing_key») ≤ 64) × Good (now store) × KeyValueLies (now command) «key_value» ⌝ }
+    ensures { λ r. ⌜ ((t : State) → t .store ≡ now (store .entry)
+        → let asked = keyValueView (now (command .entry)) «key_value» in
+        Answers (λ s. replied «reply_to» (now («signing_key» .entry)) (shown s (asked .metadataOnly) (sought which s (asked .key)))) t out r t) ⌝ }
 {
-    let start = k.key.start;
-    let end = start + k.key.len;
-    let found = find_entry(which, store, &s[start..end]);
-    show(out, by, a, store, found, flag_of(k.metadata))
+    let start = key_value.key.start;
+    let end = start + key_value.key.len;
+    let found = find_entry(which, store, &command[start..end]);
+    show(
+        out,
+        signing_key,
+        reply_to,
+        store,
+        found,
+        flag_of(key_value.metadata),
+    )
 }
 
 pub fn get_version(
     out: &mut [u8],
-    by: &[u8],
-    a: Address,
+    signing_key: &[u8],
+    reply_to: ReplyTo,
     store: &[u8],
-    s: &[u8],
-    k: KeyValue,
+    command: &[u8],
+    key_value: KeyValue,
 ) -> usize
-    requires { ⌜ (4096 ≤ length (now out)) × (length (now by) ≤ 64) × Good (now store) × KeyValueLies (now s) k ⌝ }
-    ensures { λ r. ⌜ ((t : State) → t .store ≡ now (store .entry) → Sent (replied a (now (by .entry)) (versionShown t (entryOf t (keyValueView (now (s .entry)) k .key)))) r (now (out .entry)) (now (out .exit)) t) ⌝ }
+    requires { ⌜ (4096 ≤ length (now out)) × (length (now «signing_key») ≤ 64) × Good (now store) × KeyValueLies (now command) «key_value» ⌝ }
+    ensures { λ r. ⌜ ((t : State) → t .store ≡ now (store .entry)
+        → let asked = keyValueView (now (command .entry)) «key_value» in
+        Answers (λ s. replied «reply_to» (now («signing_key» .entry)) (versionShown s (entryOf s (asked .key)))) t out r t) ⌝ }
 {
-    let start = k.key.start;
-    let end = start + k.key.len;
-    show_version(out, by, a, store, operation_get::get(store, &s[start..end]))
+    let start = key_value.key.start;
+    let end = start + key_value.key.len;
+    let found = operation_get::get(store, &command[start..end]);
+    show_version(out, signing_key, reply_to, store, found)
 }

@@ -1,6 +1,12 @@
 // GETLOG: what the host lends, how full the store is, and the limits, shown in a reply.
-use reply_send::send::Address;
-use reply_send::send::ack;
+use protocol::log_type::CAPACITIES;
+use protocol::log_type::DEVICE;
+use protocol::log_type::LIMITS;
+use protocol::log_type::TEMPERATURES;
+use protocol::log_type::UTILIZATIONS;
+use protocol::status::NOT_FOUND;
+use reply_command::ReplyTo;
+use reply_log_body::LogParts;
 use reply_send::send::status;
 use request_log_types::asks;
 use request_log_types::log_types;
@@ -15,36 +21,32 @@ ghost use Rattle.protocol.specs.Judge.{logged};
 ghost use Rattle.request_merged.specs.Types.{logTypes};
 ghost use Rattle.fields_lookup.specs.Views.{Reads};
 ghost use Rattle.fields_schema.specs.declared.Kind.the-variants.{Command};
-ghost use Rattle.reply_send.specs.Sent.{Sent, replied};
+ghost use Rattle.reply_send.specs.Sent.{replied};
+ghost use Rattle.reply_send.specs.Answers.{Answers};
 
-// The log that the command s asks for, or NOT_FOUND.
+// The log that the command asks for, or NOT_FOUND.
 pub fn get_log(
     out: &mut [u8],
-    by: &[u8],
-    a: Address,
+    signing_key: &[u8],
+    reply_to: ReplyTo,
     store: &[u8],
     readings: &[u8],
-    s: &[u8],
+    command: &[u8],
 ) -> usize
-    requires { ⌜ (4096 ≤ length (now out)) × (length (now by) ≤ 64) × Good (now store) × (readingsGood (now readings) ≡ true) × Reads Command (now s) ⌝ }
-    ensures { λ r. ⌜ ((t : State) → t .store ≡ now (store .entry) → t .readings ≡ now (readings .entry) → Sent (replied a (now (by .entry)) (logged t (logTypes (now (s .entry))))) r (now (out .entry)) (now (out .exit)) t) ⌝ }
+    requires { ⌜ (4096 ≤ length (now out)) × (length (now «signing_key») ≤ 64) × Good (now store)
+        × (readingsGood (now readings) ≡ true) × Reads Command (now command) ⌝ }
+    ensures { λ r. ⌜ ((t : State) → t .store ≡ now (store .entry) → t .readings ≡ now (readings .entry)
+        → Answers (λ s. replied «reply_to» (now («signing_key» .entry)) (logged s (logTypes (now (command .entry))))) t out r t) ⌝ }
 {
-    let types = log_types(s);
-    if asks(types, 7) {
-        return status(out, by, a, 7);
+    let types = log_types(command);
+    if asks(types, DEVICE) {
+        return status(out, signing_key, reply_to, NOT_FOUND);
     }
-    reply_log::put_log(
-        out,
-        by,
-        a.identity,
-        a.connection,
-        ack(a),
-        a.kind,
-        store,
-        readings,
-        asks(types, 0),
-        asks(types, 1),
-        asks(types, 2),
-        asks(types, 6),
-    )
+    let parts = LogParts {
+        utilizations: asks(types, UTILIZATIONS),
+        temperatures: asks(types, TEMPERATURES),
+        capacities: asks(types, CAPACITIES),
+        limits: asks(types, LIMITS),
+    };
+    reply_log::put_log(out, signing_key, reply_to, store, readings, parts)
 }

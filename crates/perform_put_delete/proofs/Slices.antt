@@ -6,14 +6,16 @@ use Prim.Native.Nat.{ℕ, _≤_}
 use lib.ListN.{length}
 use Rattle.store_block.specs.Entry.{Entry, entry, Fit}
 use Rattle.fields_lookup.specs.Views.{numView}
-use Rattle.protocol.specs.Command.{orElse, flag}
+use Rattle.base_definitions.specs.Options.{orElse}
+use Rattle.protocol.specs.Command.{flag}
 use Rattle.protocol.specs.Judge.{keyValueGood, newEntry}
-use Rattle.operation_put.specs.PutGiven.{Puts}
-use Rattle.operation_put.specs.Changes.{put-fits}
-use Rattle.operation_put.specs.DeleteGiven.{Deletes}
+use Rattle.operation_put.specs.PutCode.{Puts}
+use Rattle.operation_put.specs.PutLaws.{put-fits}
+use Rattle.operation_put.specs.DeleteCode.{Deletes}
 use Rattle.request_parts.specs.declared.KeyValue.{KeyValue}
 use Rattle.request_parts.specs.Views.{KeyValueLies, keyValueView}
-use Rattle.perform_entry.specs.Slices.{cutAt, cut-part}
+use Rattle.perform_entry.specs.Slices.{cutAt}
+use Rattle.perform_entry.specs.SlicesLaws.{cut-part}
 
 module _ {s : List ℕ} {k : KeyValue} (h : KeyValueLies s k) where
   pub deletes : {f : Bool} → f ≡ flag (numView (k .force)) → Deletes (keyValueView s k) (cutAt s (k .key)) (cutAt s (k .expected)) f

@@ -1,1 +1,1 @@
-pub mod RangeSlices
+pub mod RangeSlicesLaws

@@ -9,6 +9,7 @@ use access_permission::SETUP;
 use access_permission::WRITE;
 use access_record::Found;
 use access_record::Record;
+use access_record::offsets::RECORD_BYTES;
 use libc::STDOUT_FILENO;
 ghost use Prim.Native.Nat.{_<_};
 
@@ -265,7 +266,6 @@ fn other_rows(device: &Record) {
     row(device, 6, READ, b"shut");
     row(device, 6, READ, b"pen");
     row_any(device, MINUS_ONE, SETUP);
-    row(device, MINUS_ONE, SETUP, b"foo1");
     row_any(device, MINUS_ONE, SECURITY);
     row_range(device, MINUS_ONE, b"", b"");
     row(device, MINUS_ONE, READ, b"zzzz");
@@ -273,7 +273,7 @@ fn other_rows(device: &Record) {
 }
 
 fn main() {
-    let mut device = [0u8; 2960];
+    let mut device = [0u8; RECORD_BYTES];
     access_table_write::clear_table(&mut device, 0);
     clients(&mut device);
     readers(&mut device);

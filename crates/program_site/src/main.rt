@@ -15,6 +15,8 @@
 //
 // KEY and INPUT are hex, or - for no bytes; READINGS are 134 bytes in hex; the other words are decimal.
 use access_record::Record;
+use access_record::offsets::RECORD_BYTES;
+use base_integers::as_u64::wide;
 use device::Formatted;
 use device::Response;
 use fields_repeated::next_numbered;
@@ -49,12 +51,6 @@ type Store = [u8; 65536];
 type Readings = [u8; 134];
 
 type Slots = [u64; 24];
-
-fn wide(b: u8) -> u64
-    ensures { λ r. ⌜ r < 256 ⌝ }
-{
-    b as u64
-}
 
 // ---- the connections, three words each: number, flags, last sequence
 
@@ -168,9 +164,8 @@ fn sha1(b: &[u8]) {
 fn title(said: &[u8]) {
     newline();
     write(said);
-    write(
-        b"\n    No.  Time   Who       Asked                                          Answer                        Taken Written Entries  Reply, or its SHA-1\n",
-    );
+    write(b"\n    No.  Time   Who       Asked                                          ");
+    write(b"Answer                        Taken Written Entries  Reply, or its SHA-1\n");
 }
 
 // The number of a row and what was asked.
@@ -784,7 +779,7 @@ fn day(
 
 fn main() {
     let mut store = io::large_buffer();
-    let mut device = [0u8; 2960];
+    let mut device = [0u8; RECORD_BYTES];
     let mut readings = [0u8; 134];
     let mut slots = [0u64; 24];
     let mut s = [0u8; 131072];

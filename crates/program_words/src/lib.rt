@@ -1,13 +1,8 @@
 // Lines of text that programs read and write: words, numbers in decimal, bytes in hex.
+use base_integers::as_u64::wide;
 use libc::STDOUT_FILENO;
 ghost use Prim.Native.Nat.{_<_, _≤_, _+_};
 ghost use lib.ListN.{length};
-
-fn wide(b: u8) -> u64
-    ensures { λ r. ⌜ r < 256 ⌝ }
-{
-    b as u64
-}
 
 // The place of the first byte b, or the end.
 pub fn place_of(s: &[u8], b: u8, from: usize) -> usize

@@ -1,7 +1,7 @@
 -- The box: document 01 and CR 1 of document 02 whole, as one device of `Answer`.
 use mathlib.Core.List.{List, []}
 use mathlib.Core.Option.{Option, none, some}
-use Prim.Native.Nat.{ℕ, _-_, _^_}
+use Prim.Native.Nat.{ℕ}
 use Rattle.fields_schema.specs.Tree.{Tree, mapO}
 use Rattle.access_record.specs.Table as access
 use Rattle.access_record.specs.Table.{placeOf, tableGood}
@@ -12,10 +12,12 @@ use Rattle.log_readings.specs.Lent.{readingsGood}
 use Rattle.signature_hmac.specs.Hmac.{hmac}
 use Rattle.protocol.specs.State.{State, table, closing}
 use Rattle.protocol.specs.Command.{Header, Command, commandOf}
-use Rattle.protocol.specs.Operation.{askedBy, replyType}
+use Rattle.protocol.specs.Operation.{INVALID_MESSAGE_TYPE, askedBy, replyType}
 use Rattle.protocol.specs.Judge.{Result, judge, bare}
-use Rattle.protocol.specs.Reply.{commandTree, signedReply, closingReply}
-use Rattle.protocol.specs.Answer.{Device, Reply, reply, Outcome, answer}
+use Rattle.protocol.specs.Reply.{ReplyMessage, signedBy, closingWith, commandTree}
+use Rattle.protocol.specs.Answer.{Device, Reply, reply, Outcome, reading, respond, answer}
+use Rattle.protocol.specs.StatusCode.{HMAC_FAILURE, INVALID_REQUEST, CONNECTION_TERMINATED}
+use Rattle.protocol.specs.Frame.{Framing, more, closes, whole}
 
 -- step 2: the ACL of an identity
 abbrev pub aclAt : State → Found → Option access.Acl
@@ -27,11 +29,11 @@ aclOf s i = aclAt s (placeOf (table s) i)
 
 -- "Otherwise … and close"
 abbrev pub close : State → ℕ → Reply State
-close s code = reply (closingReply (s .connection .number) code) (closing s)
+close s code = reply (closingWith (s .connection .number) code) (closing s)
 
 -- step 3: INVALID_REQUEST (16), type -1, no field 6
-abbrev pub invalid : State → ℕ → List ℕ → List ℕ
-invalid s i key = signedReply i key (commandTree (s .connection .number) none (2 ^ 64 - 1) bare 16) []
+abbrev pub invalid : State → ℕ → List ℕ → ReplyMessage
+invalid s i key = signedBy i key (commandTree (s .connection .number) none INVALID_MESSAGE_TYPE bare INVALID_REQUEST) []
 
 abbrev pub sequenceOf : Option Header → Option ℕ
 sequenceOf none = none
@@ -42,14 +44,14 @@ typeOf none = none
 typeOf (some h) = h .messageType
 
 -- the reply to a command that decodes, and what is lent afterwards
-abbrev pub told : State → ℕ → List ℕ → Command → Result → Reply State
-told s i key c r =
-    reply (signedReply i key (commandTree (s .connection .number) (sequenceOf (c .header)) (replyType (askedBy (typeOf (c .header)))) (r .body) (r .code)) (r .value))
+abbrev pub commandReply : State → ℕ → List ℕ → Command → Result → Reply State
+commandReply s i key c r =
+    reply (signedBy i key (commandTree (s .connection .number) (sequenceOf (c .header)) (replyType (askedBy (typeOf (c .header)))) (r .body) (r .code)) (r .value))
     (r .state)
 
 abbrev pub judged : State → ℕ → List ℕ → Command → List ℕ → Option access.Acl → Reply State
-judged s i key c v none = close s 2
-judged s i key c v (some a) = told s i key c (judge s a c v)
+judged s i key c v none = close s HMAC_FAILURE
+judged s i key c v (some a) = commandReply s i key c (judge s a c v)
 
 -- steps 4 to 10
 unfoldable pub decide : State → ℕ → List ℕ → Tree → List ℕ → Reply State
@@ -73,3 +75,12 @@ box =
 -- the answering call: the lent state, the length of the reply buffer, the input
 abbrev pub answers : State → ℕ → List ℕ → Outcome State
 answers s out xs = answer box s out xs
+
+-- the reply to an input. MORE is a refusal: it has none
+abbrev pub messageIn : Reply State → ReplyMessage
+messageIn (reply r s) = r
+
+abbrev pub replyTo : State → Framing → Option ReplyMessage
+replyTo s more = none
+replyTo s closes = some (messageIn (close s CONNECTION_TERMINATED))
+replyTo s (whole m v rest) = some (messageIn (respond box s v (reading box s m)))

@@ -1,14 +1,12 @@
 -- What a command says, by the names of document 01's list; getLog by document 02, CR 1. "Absent bytes are empty, flags false, clusterVersion and offset 0."
 use mathlib.Core.Bool.{Bool, false, not}
-use mathlib.Core.List.{List, [], _∷_}
+use mathlib.Core.List.{List, []}
 use mathlib.Core.Option.{Option, none, some}
 use Prim.Native.Nat.{ℕ}
 use lib.Dec.{eqb}
+use Rattle.base_definitions.specs.Options.{orElse}
+use Rattle.base_definitions.specs.Lists.{mapL}
 use Rattle.fields_schema.specs.Tree.{Tree, mapO, intAt, rawAt, subAt, intsAt, subsAt}
-
-abbrev pub orElse : {A : Type 0} → A → Option A → A
-orElse a none = a
-orElse a (some b) = b
 
 -- a flag
 abbrev pub flag : Option ℕ → Bool
@@ -99,10 +97,6 @@ typesOf t = intsAt 1 t
 
 abbrev pub scopeOf : Tree → Scope
 scopeOf t = record { offset = orElse 0 (intAt 1 t); value = orElse [] (rawAt 2 t); permissions = intsAt 3 t; tlsRequired = flag (intAt 4 t) }
-
-unfoldable pub mapL : {A B : Type 0} → (A → B) → List A → List B
-mapL f [] = []
-mapL f (x ∷ xs) = f x ∷ mapL f xs
 
 abbrev pub aclOf : Tree → Acl
 aclOf t = record { identity = intAt 1 t; key = orElse [] (rawAt 2 t); hmacAlgorithm = orElse 1 (intAt 3 t); scopes = mapL scopeOf (subsAt 4 t) }

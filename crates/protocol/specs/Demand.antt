@@ -12,6 +12,7 @@ use Rattle.protocol.specs.Reading.{readMessage, envelope, undecodable, r
 use Rattle.protocol.specs.Answer.{Device, Outcome, refused, answered, reading, answer}
 use Rattle.fields_schema.specs.declared.Kind.{Kind}
 use Rattle.fields_schema.specs.declared.Kind.the-variants.{Message, HmacAuth, Command}
+use Rattle.protocol.specs.Reply.{replyBytes}
 
 -- in the message around it the commandBytes and the hmac are: Edited and Signed say by what, for those that count
 pub data Free : Kind → ℕ → List ℕ → List ℕ → Type 0 where
@@ -35,8 +36,8 @@ module _ (D : Device) where
   Signed key m = (i : ℕ) (sig c : List ℕ) → readMessage m ≡ some (envelope i sig c) → sig ≡ D .hmac key c
 
   -- the first half
-  abbrev pub SameAnswer : Type 0
-  SameAnswer =
+  abbrev pub UnknownFieldsSame : Type 0
+  UnknownFieldsSame =
       (s : D .State) (out : ℕ) (m m' v rest rest' : List ℕ) (i : ℕ) (key : List ℕ) (t : Tree)
       → reading D s m ≡ read i key t → Fits m v
       → Edited 0 m m' → Signed key m' → Fits m' v
@@ -44,11 +45,11 @@ module _ (D : Device) where
       × SameBut (length (frame m v)) (length (frame m' v)) (answer D s out (frame m v ++ rest)) (answer D s out (frame m' v ++ rest'))
 
   -- the second half
-  abbrev pub StrangeAnswer : Type 0
-  StrangeAnswer =
+  abbrev pub RefusedInsideSecurity : Type 0
+  RefusedInsideSecurity =
       (s : D .State) (out : ℕ) (m m' v rest' : List ℕ) (i : ℕ) (key : List ℕ) (t : Tree) (c : ℕ)
       → reading D s m ≡ read i key t
       → Edited (suc c) m m' → Signed key m' → Fits m' v
       → ((n : ℕ) → answer D s out (frame m' v ++ rest') ≡ refused n → ⊥)
       → (reading D s m' ≡ undecodable i key)
-      × (answer D s out (frame m' v ++ rest') ≡ answered (D .invalid s i key) s (length (frame m' v)))
+      × (answer D s out (frame m' v ++ rest') ≡ answered (replyBytes (D .invalid s i key)) s (length (frame m' v)))

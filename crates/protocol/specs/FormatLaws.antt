@@ -1,18 +1,18 @@
 -- What follows of the definitions of `Format`: each refusal by its test, and that a formatted box is good.
 use mathlib.Core.Path.{_≡_, refl, sym, ap, _∙_}
-use mathlib.Core.Bool.{Bool, true, false}
+use mathlib.Core.Bool.{Bool, true, false, _&&_}
 use mathlib.Core.List.{List}
 use Prim.Native.Nat.{ℕ, _≤_, _<_}
 use native.Mathlib.Omega.{arith}
 use lib.Dec.{leb}
 use lib.ListN.{length, replicate}
 use borrow.Author.Tests.{le-leb, lt-leb}
-use Rattle.access_record.specs.Table.{both, hostTable}
+use Rattle.access_record.specs.Table.{hostTable}
 use Rattle.access_record.specs.Record.{tableBytes}
 use Rattle.store_layout.specs.Store.{sizeGood}
 use Rattle.protocol.specs.Format.{formatRefusal, unlessRefused, Told}
 
-both-no : (x : Bool) → both x false ≡ false
+both-no : (x : Bool) → (x && false) ≡ false
 both-no true = refl
 both-no false = refl
 

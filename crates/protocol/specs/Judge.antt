@@ -1,14 +1,15 @@
 -- Document 01, "The order of judgement", steps 4 to 9, and "What each does", step 10: each step has the next as its last argument.
-use mathlib.Core.Bool.{Bool, true, false, not}
+use mathlib.Core.Bool.{Bool, true, false, not, cond, _&&_, _||_}
 use mathlib.Core.List.{List, [], _∷_, reverse}
 use mathlib.Core.Option.{Option, none, some}
 use Prim.Native.Nat.{ℕ, _+_, _*_, _%_, _^_}
 use lib.Dec.{eqb, leb, ltb}
 use lib.ListN.{length, take, getD}
-use Rattle.fields_wire.specs.Reader.{choose}
 use Rattle.fields_schema.specs.Tree.{guard, isSome, among}
 use Rattle.access_record.specs.Table as access
-use Rattle.access_record.specs.Table.{both, either, all, within, sameBytes, named, maskOf, tableGood}
+use Rattle.base_definitions.specs.Options.{orElse}
+use Rattle.base_definitions.specs.Lists.{all, within, sameBytes, mapL, isEmpty}
+use Rattle.access_record.specs.Table.{named, maskOf, tableGood}
 use Rattle.access_record.specs.Record.{tableBytes, withClusterVersion}
 use Rattle.access_permission.specs.Permission.{permits, permitsAny, permitsRange}
 use Rattle.store_block.specs.Order.{cmp}
@@ -27,8 +28,11 @@ use Rattle.protocol.specs.declared.Operation.the-variants.{Noop, Get, Ge
 use Rattle.protocol.specs.declared.Asked.{Asked}
 use Rattle.protocol.specs.declared.Asked.the-variants.{Request, NotBuilt}
 use Rattle.protocol.specs.State.{State, table, entries, withStore, withDevice, accepted}
-use Rattle.protocol.specs.Command.{Header, KeyValue, Range, Scope, Acl, Body, Command, orElse, mapL}
+use Rattle.protocol.specs.Command.{Header, KeyValue, Range, Scope, Acl, Body, Command}
 use Rattle.protocol.specs.Operation.{askedBy}
+use Rattle.protocol.specs.StatusCode.{SUCCESS, NOT_AUTHORIZED, VERSION_FAILURE, HEADER_REQUIRED, NOT_FOUND, VERSION_MISMATCH, NO_SPACE, NO_SUCH_HMAC_ALGORITHM, INVALID_REQUEST}
+use Rattle.protocol.specs.LogType.{UTILIZATIONS, TEMPERATURES, CAPACITIES, CONFIGURATION, STATISTICS, MESSAGES, LIMITS, DEVICE}
+use Rattle.access_permission.specs.Permissions.{READ, WRITE, DELETE, SETUP, GETLOG, SECURITY}
 
 -- document 02, CR 1: nominalCapacityInBytes, and the 32 bits of portionFull
 pub record Capacity : Type 0 where
@@ -61,23 +65,23 @@ fails s code = record { code = code; body = bare; value = []; state = s }
 
 -- SUCCESS (1)
 abbrev pub succeeds : State → ReplyBody → List ℕ → Result
-succeeds s b v = record { code = 1; body = b; value = v; state = s }
+succeeds s b v = record { code = SUCCESS; body = b; value = v; state = s }
 
 -- ---- step 4: "Header, connectionID and sequence present: else HEADER_REQUIRED (6)"
 
 abbrev pub bothThere : State → Header → Option ℕ → Option ℕ → (Header → ℕ → ℕ → Result) → Result
 bothThere s h (some c) (some q) next = next h c q
-bothThere s h (some c) none next = fails s 6
-bothThere s h none q next = fails s 6
+bothThere s h (some c) none next = fails s HEADER_REQUIRED
+bothThere s h none q next = fails s HEADER_REQUIRED
 
 abbrev pub step4 : State → Option Header → (Header → ℕ → ℕ → Result) → Result
-step4 s none next = fails s 6
+step4 s none next = fails s HEADER_REQUIRED
 step4 s (some h) next = bothThere s h (h .connectionID) (h .sequence) next
 
 -- ---- step 5: "clusterVersion equals the device's: else VERSION_FAILURE (4)"
 
 abbrev pub step5 : State → Header → Result → Result
-step5 s h next = choose (eqb (h .clusterVersion) (table s .clusterVersion)) next (fails s 4)
+step5 s h next = cond (eqb (h .clusterVersion) (table s .clusterVersion)) next (fails s VERSION_FAILURE)
 
 -- ---- step 6: "connectionID equals the connection's, and sequence is above the last accepted: else 16"
 
@@ -90,19 +94,15 @@ aboveLast q none = true
 aboveLast q (some l) = above q l
 
 abbrev pub step6 : State → ℕ → ℕ → Result → Result
-step6 s c q next = choose (both (eqb c (s .connection .number)) (aboveLast q (s .connection .last))) next (fails s 16)
+step6 s c q next = cond (eqb c (s .connection .number) && aboveLast q (s .connection .last)) next (fails s INVALID_REQUEST)
 
 -- ---- step 7: "messageType is a request built here: else 16"
 
 abbrev pub step7 : State → Asked → (Operation → Result) → Result
 step7 s (Request o) next = next o
-step7 s NotBuilt next = fails s 16
+step7 s NotBuilt next = fails s INVALID_REQUEST
 
 -- ---- step 8: "Its body part is present (NOOP and FLUSHALLDATA need none) and well formed: else 16"
-
-abbrev pub isEmpty : List ℕ → Bool
-isEmpty [] = true
-isEmpty (x ∷ xs) = false
 
 -- a part that must be there, and its rule
 abbrev pub present : {A : Type 0} → (A → Bool) → Option A → Bool
@@ -112,20 +112,20 @@ present f (some a) = f a
 -- "Key 1 to 64, versions at most 16, tag at most 32"
 unfoldable pub keyValueGood : KeyValue → Bool
 keyValueGood k =
-    both (within 1 64 (length (k .key))) (both (leb (length (k .newVersion)) 16) (both (leb (length (k .dbVersion)) 16) (leb (length (k .tag)) 32)))
+    within 1 64 (length (k .key)) && (leb (length (k .newVersion)) 16 && (leb (length (k .dbVersion)) 16 && leb (length (k .tag)) 32))
 
 -- "metadataOnly not true on PUT or DELETE"
 abbrev pub changeGood : KeyValue → Bool
-changeGood k = both (keyValueGood k) (not (k .metadataOnly))
+changeGood k = keyValueGood k && not (k .metadataOnly)
 
 -- "Range keys present, 0 to 64; maxReturned 0 to 32": a negative number is a word above 32
 unfoldable pub rangeGood : Range → Bool
 rangeGood r =
-    both (present (λ k. leb (length k) 64) (r .startKey)) (both (present (λ k. leb (length k) 64) (r .endKey)) (leb (r .maxReturned) 32))
+    present (λ k. leb (length k) 64) (r .startKey) && (present (λ k. leb (length k) 64) (r .endKey) && leb (r .maxReturned) 32)
 
 -- document 02, CR 1: "no type, or a 3, 4 or 5, is INVALID_REQUEST at step 8"
 unfoldable pub typesGood : List ℕ → Bool
-typesGood ts = both (not (isEmpty ts)) (not (either (among 3 ts) (either (among 4 ts) (among 5 ts))))
+typesGood ts = not (isEmpty ts) && not (among CONFIGURATION ts || (among STATISTICS ts || among MESSAGES ts))
 
 -- the table that a SECURITY asks for
 abbrev pub wantedScope : Scope → access.Scope
@@ -139,15 +139,15 @@ wanted version acls = record { clusterVersion = version; acls = mapL wantedAcl a
 
 -- "each with 1 to 9 permissions among 0-5, 7, 8, 9"
 unfoldable pub permissionsGood : Scope → Bool
-permissionsGood s = both (within 1 9 (length (s .permissions))) (all named (s .permissions))
+permissionsGood s = within 1 9 (length (s .permissions)) && all named (s .permissions)
 
 -- "identities present", and the permissions of each scope
 unfoldable pub aclRead : Acl → Bool
-aclRead a = both (isSome (a .identity)) (all permissionsGood (a .scopes))
+aclRead a = isSome (a .identity) && all permissionsGood (a .scopes)
 
 -- "ACL rules": these, and every rule that the table of a device record obeys. A negative offset is a word above 64
 unfoldable pub securityGood : List Acl → Bool
-securityGood acls = both (all aclRead acls) (tableGood (wanted 0 acls))
+securityGood acls = all aclRead acls && tableGood (wanted 0 acls)
 
 -- "Then an hmacAlgorithm that is present and not 1 gives NO_SUCH_HMAC_ALGORITHM (15)"
 unfoldable pub algorithmsGood : List Acl → Bool
@@ -155,25 +155,25 @@ algorithmsGood acls = all (λ a. eqb (a .hmacAlgorithm) 1) acls
 
 -- the code where a rule is broken, else 0
 abbrev pub broken : Bool → ℕ
-broken good = choose good 0 16
+broken good = cond good 0 INVALID_REQUEST
 
 -- what is wrong with the part, in this order; "value part at most 384 on PUT and empty elsewhere"
 abbrev pub fault : Operation → Body → List ℕ → ℕ
 fault Noop b v = broken (isEmpty v)
 fault FlushAllData b v = broken (isEmpty v)
-fault Get b v = broken (both (isEmpty v) (present keyValueGood (b .keyValue)))
-fault GetVersion b v = broken (both (isEmpty v) (present keyValueGood (b .keyValue)))
-fault GetNext b v = broken (both (isEmpty v) (present keyValueGood (b .keyValue)))
-fault GetPrevious b v = broken (both (isEmpty v) (present keyValueGood (b .keyValue)))
-fault Put b v = broken (both (leb (length v) 384) (present changeGood (b .keyValue)))
-fault Delete b v = broken (both (isEmpty v) (present changeGood (b .keyValue)))
-fault GetKeyRange b v = broken (both (isEmpty v) (present rangeGood (b .range)))
-fault Setup b v = broken (both (isEmpty v) (isSome (b .setup)))
-fault GetLog b v = broken (both (isEmpty v) (present typesGood (b .getLog)))
-fault Security b v = choose (both (isEmpty v) (present securityGood (b .security))) (choose (present algorithmsGood (b .security)) 0 15) 16
+fault Get b v = broken (isEmpty v && present keyValueGood (b .keyValue))
+fault GetVersion b v = broken (isEmpty v && present keyValueGood (b .keyValue))
+fault GetNext b v = broken (isEmpty v && present keyValueGood (b .keyValue))
+fault GetPrevious b v = broken (isEmpty v && present keyValueGood (b .keyValue))
+fault Put b v = broken (leb (length v) 384 && present changeGood (b .keyValue))
+fault Delete b v = broken (isEmpty v && present changeGood (b .keyValue))
+fault GetKeyRange b v = broken (isEmpty v && present rangeGood (b .range))
+fault Setup b v = broken (isEmpty v && isSome (b .setup))
+fault GetLog b v = broken (isEmpty v && present typesGood (b .getLog))
+fault Security b v = cond (isEmpty v && present securityGood (b .security)) (cond (present algorithmsGood (b .security)) 0 NO_SUCH_HMAC_ALGORITHM) INVALID_REQUEST
 
 abbrev pub step8 : State → Operation → Body → List ℕ → Result → Result
-step8 s o b v next = choose (eqb (fault o b v) 0) next (fails s (fault o b v))
+step8 s o b v next = cond (eqb (fault o b v) 0) next (fails s (fault o b v))
 
 -- ---- step 9: "Permission: else NOT_AUTHORIZED (3)", by "Who may"
 
@@ -198,19 +198,19 @@ rangePermitted a protected r = permitsRange a protected (orElse [] (r .startKey)
 abbrev pub permitted : access.Acl → Bool → Operation → Body → Bool
 permitted a p Noop b = true
 permitted a p FlushAllData b = true
-permitted a p Get b = permits a p 0 (keyValueIn b .key)
-permitted a p GetVersion b = permits a p 0 (keyValueIn b .key)
-permitted a p GetNext b = permits a p 0 (keyValueIn b .key)
-permitted a p GetPrevious b = permits a p 0 (keyValueIn b .key)
-permitted a p Put b = permits a p 1 (keyValueIn b .key)
-permitted a p Delete b = permits a p 2 (keyValueIn b .key)
+permitted a p Get b = permits a p READ (keyValueIn b .key)
+permitted a p GetVersion b = permits a p READ (keyValueIn b .key)
+permitted a p GetNext b = permits a p READ (keyValueIn b .key)
+permitted a p GetPrevious b = permits a p READ (keyValueIn b .key)
+permitted a p Put b = permits a p WRITE (keyValueIn b .key)
+permitted a p Delete b = permits a p DELETE (keyValueIn b .key)
 permitted a p GetKeyRange b = rangePermitted a p (rangeIn b)
-permitted a p Setup b = permitsAny a p 4
-permitted a p GetLog b = permitsAny a p 7
-permitted a p Security b = permitsAny a p 8
+permitted a p Setup b = permitsAny a p SETUP
+permitted a p GetLog b = permitsAny a p GETLOG
+permitted a p Security b = permitsAny a p SECURITY
 
 abbrev pub step9 : State → access.Acl → Operation → Body → Result → Result
-step9 s a o b next = choose (permitted a (s .connection .protected) o b) next (fails s 3)
+step9 s a o b next = cond (permitted a (s .connection .protected) o b) next (fails s NOT_AUTHORIZED)
 
 -- ---- step 10: "The operation", by "What each does"
 
@@ -228,13 +228,13 @@ entryOf s k = entryAt s (findIn k (entries s))
 
 -- "keyValue 3, 4, 5, 6, …, and the value part unless metadataOnly"
 abbrev pub shown : State → Bool → Option Entry → Result
-shown s metadataOnly none = fails s 7
+shown s metadataOnly none = fails s NOT_FOUND
 shown s metadataOnly (some e) =
-    succeeds s (keyValue (e .key) (e .version) (e .tag) (e .algorithm)) (choose metadataOnly [] (e .value))
+    succeeds s (keyValue (e .key) (e .version) (e .tag) (e .algorithm)) (cond metadataOnly [] (e .value))
 
 -- "GETVERSION keyValue 4"
 abbrev pub versionShown : State → Option Entry → Result
-versionShown s none = fails s 7
+versionShown s none = fails s NOT_FOUND
 versionShown s (some e) = succeeds s (keyValue [] (e .version) [] 0) []
 
 -- "dbVersion must equal the stored version, or be empty for a new key"; "without force"
@@ -243,7 +243,7 @@ versionOf none = []
 versionOf (some e) = e .version
 
 abbrev pub versionRight : KeyValue → Option Entry → Bool
-versionRight k o = either (k .force) (sameBytes (k .dbVersion) (versionOf o))
+versionRight k o = k .force || sameBytes (k .dbVersion) (versionOf o)
 
 -- "Stores newVersion, tag, algorithm, value"
 abbrev pub newEntry : KeyValue → List ℕ → Entry
@@ -256,28 +256,28 @@ changed s l = succeeds (withStore s l) (keyValue [] [] [] 0) []
 -- "else VERSION_MISMATCH (8). A new key that passes this, with no blank block: NO_SPACE (14)"
 abbrev pub put : State → KeyValue → List ℕ → Result
 put s k v =
-    choose (versionRight k (entryOf s (k .key)))
-    (choose (hasRoom (s .store) (newEntry k v)) (changed s (putStore (s .store) (newEntry k v))) (fails s 14))
-    (fails s 8)
+    cond (versionRight k (entryOf s (k .key)))
+    (cond (hasRoom (s .store) (newEntry k v)) (changed s (putStore (s .store) (newEntry k v))) (fails s NO_SPACE))
+    (fails s VERSION_MISMATCH)
 
 -- "missing key is NOT_FOUND (7), or SUCCESS with force; version as for PUT"
 abbrev pub deleteBy : State → KeyValue → Option Entry → Result
-deleteBy s k none = choose (k .force) (changed s (s .store)) (fails s 7)
-deleteBy s k (some e) = choose (versionRight k (some e)) (changed s (deleteStore (s .store) (k .key))) (fails s 8)
+deleteBy s k none = cond (k .force) (changed s (s .store)) (fails s NOT_FOUND)
+deleteBy s k (some e) = cond (versionRight k (some e)) (changed s (deleteStore (s .store) (k .key))) (fails s VERSION_MISMATCH)
 
 -- "keys above start (or equal, if inclusive) and below end (likewise)"
 unfoldable pub inRange : Range → List ℕ → Bool
 inRange r k =
-    both (either (isLess (cmp (orElse [] (r .startKey)) k)) (both (r .startInclusive) (isEqual (cmp (orElse [] (r .startKey)) k))))
-    (either (isLess (cmp k (orElse [] (r .endKey)))) (both (r .endInclusive) (isEqual (cmp k (orElse [] (r .endKey))))))
+    (isLess (cmp (orElse [] (r .startKey)) k) || (r .startInclusive && isEqual (cmp (orElse [] (r .startKey)) k))) &&
+    (isLess (cmp k (orElse [] (r .endKey))) || (r .endInclusive && isEqual (cmp k (orElse [] (r .endKey)))))
 
 unfoldable pub keysIn : Range → List Entry → List (List ℕ)
 keysIn r [] = []
-keysIn r (e ∷ es) = choose (inRange r (e .key)) (e .key ∷ keysIn r es) (keysIn r es)
+keysIn r (e ∷ es) = cond (inRange r (e .key)) (e .key ∷ keysIn r es) (keysIn r es)
 
 -- "ascending, or descending with reverse, the first maxReturned"
 unfoldable pub keysOf : Range → List Entry → List (List ℕ)
-keysOf r es = take (r .maxReturned) (choose (r .reverse) (reverse (keysIn r es)) (keysIn r es))
+keysOf r es = take (r .maxReturned) (cond (r .reverse) (reverse (keysIn r es)) (keysIn r es))
 
 -- "SETUP sets the cluster version if given"
 abbrev pub setUp : State → Option ℕ → Result
@@ -292,19 +292,19 @@ capacityOf store = record { nominal = 512 * blocksIn store; portion = portion (l
 unfoldable pub logWith : List ℕ → List ℕ → Bool → Bool → Bool → Bool → Log
 logWith store readings utilized heated filled limited =
     record {
-      utilizations = choose utilized (mapL utilizationSample (utilizations readings)) [];
-      temperatures = choose heated (mapL temperatureSample (temperatures readings)) [];
+      utilizations = cond utilized (mapL utilizationSample (utilizations readings)) [];
+      temperatures = cond heated (mapL temperatureSample (temperatures readings)) [];
       capacity = guard filled (capacityOf store);
       limits = limited;
     }
 
 -- "gives each asked type once": UTILIZATIONS 0, TEMPERATURES 1, CAPACITIES 2, LIMITS 6
 abbrev pub logOf : State → List ℕ → Log
-logOf s types = logWith (s .store) (s .readings) (among 0 types) (among 1 types) (among 2 types) (among 6 types)
+logOf s types = logWith (s .store) (s .readings) (among UTILIZATIONS types) (among TEMPERATURES types) (among CAPACITIES types) (among LIMITS types)
 
 -- "else a 7 is NOT_FOUND at step 10"
 abbrev pub logged : State → List ℕ → Result
-logged s types = choose (among 7 types) (fails s 7) (succeeds s (log (logOf s types)) [])
+logged s types = cond (among DEVICE types) (fails s NOT_FOUND) (succeeds s (log (logOf s types)) [])
 
 -- "SECURITY replaces the whole table"; the cluster version stays
 abbrev pub secure : State → List Acl → Result

@@ -1,24 +1,16 @@
 -- Steps 1 to 3 of document 01: what a message is read as.
 use Prim.Native.Nat.{ℕ}
-use mathlib.Core.List.{List, [], _∷_}
+use mathlib.Core.List.{List, []}
 use mathlib.Core.Option.{Option, none, some}
-use mathlib.Core.Bool.{Bool, true, false}
+use mathlib.Core.Bool.{Bool, false, cond}
 use lib.Dec.{eqb, leb}
 use lib.ListN.{length}
-use Rattle.fields_wire.specs.Reader.{choose}
 use Rattle.fields_schema.specs.Tree.{Tree, thenO, guard, intAt, rawAt, subAt, treeIn, subsAt, listed}
+use Rattle.base_definitions.specs.Lists.{sameBytes}
+use Rattle.base_definitions.specs.Options.{orElse}
 use Rattle.fields_schema.specs.declared.Kind.the-variants.{Message, Command}
-
--- absent bytes are empty
-abbrev pub orEmpty : Option (List ℕ) → List ℕ
-orEmpty none = []
-orEmpty (some b) = b
-
-abbrev pub sameBytes : List ℕ → List ℕ → Bool
-sameBytes [] [] = true
-sameBytes [] (b ∷ y) = false
-sameBytes (a ∷ x) [] = false
-sameBytes (a ∷ x) (b ∷ y) = choose (eqb a b) (sameBytes x y) false
+use Rattle.protocol.specs.StatusCode.{HMAC_FAILURE, CONNECTION_TERMINATED}
+use Rattle.protocol.specs.AuthType.{HMACAUTH}
 
 -- step 1: the identity, the hmac and the commandBytes
 pub data Envelope : Type 0 where
@@ -28,15 +20,15 @@ pub data Envelope : Type 0 where
 abbrev pub sealed : Option Tree → Option (List ℕ) → Option Envelope
 sealed none c = none
 sealed (some u) none = none
-sealed (some u) (some c) = thenO (intAt 1 u) (λ i. some (envelope i (orEmpty (rawAt 2 u)) c))
+sealed (some u) (some c) = thenO (intAt 1 u) (λ i. some (envelope i (orElse [] (rawAt 2 u)) c))
 
--- authType is 1
+-- authType is HMACAUTH
 abbrev pub isOne : Option ℕ → Bool
 isOne none = false
-isOne (some a) = eqb a 1
+isOne (some a) = eqb a HMACAUTH
 
 abbrev pub envelopeOf : Tree → Option Envelope
-envelopeOf t = choose (isOne (intAt 4 t)) (sealed (subAt 5 t) (rawAt 7 t)) none
+envelopeOf t = cond (isOne (intAt 4 t)) (sealed (subAt 5 t) (rawAt 7 t)) none
 
 unfoldable pub readMessage : List ℕ → Option Envelope
 readMessage m = thenO (listed Message m) (λ t. envelopeOf t)
@@ -66,11 +58,11 @@ decoded i key (some t) = read i key t
 
 module _ (hmac : List ℕ → List ℕ → List ℕ) (keyOf : ℕ → Option (List ℕ)) where
   abbrev pub verified : ℕ → List ℕ → List ℕ → Option (List ℕ) → Reading
-  verified i sig c none = closing 2
-  verified i sig c (some key) = choose (sameBytes sig (hmac key c)) (decoded i key (decodes c)) (closing 2)
+  verified i sig c none = closing HMAC_FAILURE
+  verified i sig c (some key) = cond (sameBytes sig (hmac key c)) (decoded i key (decodes c)) (closing HMAC_FAILURE)
 
   abbrev pub opened : Option Envelope → Reading
-  opened none = closing 20
+  opened none = closing CONNECTION_TERMINATED
   opened (some (envelope i sig c)) = verified i sig c (keyOf i)
 
   unfoldable pub readingBy : List ℕ → Reading

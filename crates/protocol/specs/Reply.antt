@@ -7,8 +7,9 @@ use Rattle.fields_encoding.specs.Encode.{encode, intO, intIf, rawIf, floatBytes
 use Rattle.signature_hmac.specs.Hmac.{hmac}
 use Rattle.protocol.specs.Frame.{frame}
 use Rattle.log_readings.specs.Lent.{Sample}
-use Rattle.protocol.specs.Command.{mapL}
+use Rattle.base_definitions.specs.Lists.{mapL}
 use Rattle.protocol.specs.Judge.{Capacity, Log, ReplyBody, bare, keyValue, range, log}
+use Rattle.protocol.specs.AuthType.{HMACAUTH, UNSOLICITEDSTATUS}
 
 -- "header 3 (the connection's number), 6, 7"; "Field 6 is the request's sequence, omitted if the command doesn't decode or has none"
 abbrev pub headerTree : ℕ → Option ℕ → ℕ → Tree
@@ -18,7 +19,7 @@ headerTree connection ack type = int 3 connection (intO 6 ack (int 7 type done))
 abbrev pub sampleTree : Sample → Tree
 sampleTree r = raw 1 (r .name) (fixO 2 (mapO floatBytes (r .value)) done)
 
--- "capacity (4: nominalCapacityInBytes 4 …, portionFull 5)": both are sent, whatever they are
+-- a capacity, by document 003 nominalCapacityInBytes 4 and portionFull 5: both are sent, whatever they are
 abbrev pub capacityTree : Capacity → Tree
 capacityTree c = int 4 (c .nominal) (fix 5 (floatBytes (c .portion)) done)
 
@@ -44,24 +45,46 @@ bodyTree (log g) t = sub 2 (sub 6 (logTree g) done) t
 abbrev pub statusTree : ℕ → Tree
 statusTree code = sub 3 (int 1 code done) done
 
--- "Command: header 3, 6, 7; body; status"
+-- "Command: header 3 …, 6, 7; body; status"
 abbrev pub commandTree : ℕ → Option ℕ → ℕ → ReplyBody → ℕ → Tree
 commandTree connection ack type body code = sub 1 (headerTree connection ack type) (bodyTree body (statusTree code))
 
 -- "Message 4 = 1, HMACauth (the request's identity; hmac under the key that verified the request), 7"
 abbrev pub signedTree : ℕ → List ℕ → List ℕ → Tree
-signedTree identity key command = int 4 1 (sub 5 (int 1 identity (raw 2 (hmac key command) done)) (raw 7 command done))
+signedTree identity key command = int 4 HMACAUTH (sub 5 (int 1 identity (raw 2 (hmac key command) done)) (raw 7 command done))
 
 -- "Closing replies: Message 4 = 3 and 7; header 3 and status only"
 abbrev pub closingCommand : ℕ → ℕ → Tree
 closingCommand connection code = sub 1 (int 3 connection done) (statusTree code)
 
 abbrev pub closingTree : List ℕ → Tree
-closingTree command = int 4 3 (raw 7 command done)
+closingTree command = int 4 UNSOLICITEDSTATUS (raw 7 command done)
 
--- whole replies, framed, with the value part
+-- a reply: signed, by the identity, the key that verified the request, the command and the value part; or closing, by the connection's number and the code
+pub data ReplyMessage : Type 0 where
+  signedBy : ℕ → List ℕ → Tree → List ℕ → ReplyMessage
+  closingWith : ℕ → ℕ → ReplyMessage
+
+-- its command, its message and its value part
+abbrev pub replyCommand : ReplyMessage → Tree
+replyCommand (signedBy identity key command value) = command
+replyCommand (closingWith connection code) = closingCommand connection code
+
+abbrev pub replyTree : ReplyMessage → Tree
+replyTree (signedBy identity key command value) = signedTree identity key (encode command)
+replyTree (closingWith connection code) = closingTree (encode (closingCommand connection code))
+
+abbrev pub replyValue : ReplyMessage → List ℕ
+replyValue (signedBy identity key command value) = value
+replyValue (closingWith connection code) = []
+
+-- whole, framed, with the value part
 unfoldable pub signedReply : ℕ → List ℕ → Tree → List ℕ → List ℕ
-signedReply identity key command value = frame (encode (signedTree identity key (encode command))) value
+signedReply identity key command value = frame (encode (replyTree (signedBy identity key command value))) value
 
 unfoldable pub closingReply : ℕ → ℕ → List ℕ
-closingReply connection code = frame (encode (closingTree (encode (closingCommand connection code)))) []
+closingReply connection code = frame (encode (replyTree (closingWith connection code))) []
+
+abbrev pub replyBytes : ReplyMessage → List ℕ
+replyBytes (signedBy identity key command value) = signedReply identity key command value
+replyBytes (closingWith connection code) = closingReply connection code

@@ -44,16 +44,16 @@ withDevice s l = record { store = s .store; device = l; readings = s .readings; 
 abbrev pub withConnection : State → Connection → State
 withConnection s c = record { store = s .store; device = s .device; readings = s .readings; connection = c }
 
-abbrev pub shut : Connection → Connection
-shut c = record { number = c .number; protected = c .protected; closed = true; last = c .last }
+abbrev pub withClosed : Connection → Connection
+withClosed c = record { number = c .number; protected = c .protected; closed = true; last = c .last }
 
 -- the connection closed
 abbrev pub closing : State → State
-closing s = withConnection s (shut (s .connection))
+closing s = withConnection s (withClosed (s .connection))
 
-abbrev pub heard : Connection → ℕ → Connection
-heard c q = record { number = c .number; protected = c .protected; closed = c .closed; last = some q }
+abbrev pub withSequence : Connection → ℕ → Connection
+withSequence c q = record { number = c .number; protected = c .protected; closed = c .closed; last = some q }
 
 -- step 6: "From here the sequence counts as accepted, whatever follows"
 abbrev pub accepted : State → ℕ → State
-accepted s q = withConnection s (heard (s .connection) q)
+accepted s q = withConnection s (withSequence (s .connection) q)

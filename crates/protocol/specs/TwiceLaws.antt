@@ -10,7 +10,7 @@ use borrow.Author.Tests.{lt-leb}
 use Rattle.fields_wire.specs.Wire.{Field, fieldsOf}
 use Rattle.fields_schema.specs.Tree.{mapO, thenO, guard, isSome, Tree, done, sub, listed, join, subAt, treeIn, subsAt}
 use Rattle.fields_schema.specs.PutIn.{Holds}
-use Rattle.fields_schema.specs.Merged.{sub-in, subs-join}
+use Rattle.fields_schema.specs.MergedLaws.{sub-in, subs-join}
 use Rattle.fields_schema.specs.Concat.{onceEach, occurrences, Sends}
 use Rattle.fields_schema.specs.OptionLaws.{nothing-some}
 use Rattle.fields_schema.specs.ConcatLaws.{listed-split}

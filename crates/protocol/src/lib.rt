@@ -1,3 +1,9 @@
+// What the rules name: operations, status codes, types.
+pub mod auth_type;
+pub mod log_type;
+pub mod message_type;
+pub mod status;
+
 // The operations that are built, document 01, "What the box does".
 pub enum Operation {
     Noop,

@@ -1,7 +1,7 @@
 // A connection, as the box keeps it from one message to the next.
 ghost use mathlib.Core.Path.{_≡_};
-ghost use Rattle.protocol.specs.State.{connected, heard, shut};
-ghost use Rattle.protocol_connection.specs.Means.{connectionOf};
+ghost use Rattle.protocol.specs.State.{connected, withSequence, withClosed};
+ghost use Rattle.protocol_connection.specs.ConnectionOf.{connectionOf};
 
 // Its number, a 64-bit word, whether it is protected or closed, and the last accepted sequence, where one was seen.
 pub struct Connection {
@@ -27,7 +27,7 @@ pub fn connect(number: u64, protected: bool) -> Connection
 
 // The connection with a sequence accepted.
 pub fn accept(c: Connection, sequence: u64) -> Connection
-    ensures { λ r. ⌜ connectionOf r ≡ heard (connectionOf c) sequence ⌝ }
+    ensures { λ r. ⌜ connectionOf r ≡ withSequence (connectionOf c) sequence ⌝ }
 {
     Connection {
         number: c.number,
@@ -40,7 +40,7 @@ pub fn accept(c: Connection, sequence: u64) -> Connection
 
 // The connection closed.
 pub fn close(c: Connection) -> Connection
-    ensures { λ r. ⌜ connectionOf r ≡ shut (connectionOf c) ⌝ }
+    ensures { λ r. ⌜ connectionOf r ≡ withClosed (connectionOf c) ⌝ }
 {
     Connection {
         number: c.number,

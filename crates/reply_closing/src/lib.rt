@@ -6,6 +6,7 @@ ghost use Rattle.fields_schema.specs.Tree.{done, int};
 ghost use Rattle.fields_encoding.specs.Encode.{lenField, encode};
 ghost use Rattle.fields_write_bytes.specs.Pushed.{Pushed, Starts};
 ghost use Rattle.protocol.specs.Reply.{closingReply};
+use protocol::auth_type::UNSOLICITEDSTATUS;
 use reply_command::push_status;
 use reply_envelope::push_prefix;
 
@@ -27,7 +28,7 @@ pub fn put_closing(out: &mut [u8], connection: u64, code: u64) -> usize
     let a = push_status(&mut s, 128, code);
     let b = push_connection(&mut s, a, connection);
     let c = fields_write_field::push_head(&mut s, b, 7, 128 - b);
-    let d = fields_write_field::push_int(&mut s, c, 4, 3);
+    let d = fields_write_field::push_int(&mut s, c, 4, UNSOLICITEDSTATUS);
     let e = push_prefix(&mut s, d, 128 - d, 0);
     fields_write_bytes::copy(out, &s[e..128])
 }

@@ -1,12 +1,34 @@
 // The parts of a reply's command, document 01, "Replies", each written in front of what stands behind it.
+ghost use mathlib.Core.Path.{_≡_};
 ghost use Prim.Native.Nat.{_+_, _≤_};
 ghost use lib.ListN.{length};
 ghost use Rattle.fields_encoding.specs.Encode.{lenField, encode};
 ghost use Rattle.fields_write_bytes.specs.Pushed.{Pushed, maybe};
 ghost use Rattle.protocol.specs.Judge.{keyValue};
-ghost use Rattle.protocol.specs.Reply.{headerTree, statusTree};
+ghost use Rattle.protocol.specs.Reply.{statusTree};
 ghost use Rattle.reply_command.specs.Parts.{bodyBytes};
+ghost use Rattle.reply_command.specs.Repeated.{ackOf, headerTo};
 use fields_write_bytes::Maybe;
+
+// What a reply repeats: the identity, the connection's number, the request's sequence if it has one, and the reply's type.
+pub struct ReplyTo {
+    pub identity: u64,
+    pub connection: u64,
+    pub sequenced: bool,
+    pub sequence: u64,
+    pub kind: u64,
+}
+
+// The ackSequence of a reply.
+fn ack(reply_to: ReplyTo) -> Maybe
+    ensures { λ r. ⌜ maybe r ≡ ackOf «reply_to» ⌝ }
+{
+    let sequenced = reply_to.sequenced;
+    if sequenced {
+        return Maybe::Number(reply_to.sequence);
+    }
+    Maybe::Nothing
+}
 
 // The status, the last part of a command.
 pub fn push_status(out: &mut [u8], at: usize, code: u64) -> usize
@@ -18,13 +40,13 @@ pub fn push_status(out: &mut [u8], at: usize, code: u64) -> usize
 }
 
 // The header, the first part of a command.
-pub fn push_header(out: &mut [u8], at: usize, connection: u64, ack: Maybe, kind: u64) -> usize
+pub fn push_header(out: &mut [u8], at: usize, reply_to: ReplyTo) -> usize
     requires { ⌜ (60 ≤ at) × (at ≤ length (now out)) ⌝ }
-    ensures { λ r. ⌜ Pushed r at (lenField 1 (encode (headerTree connection (maybe ack) kind))) (now (out .entry)) (now (out .exit)) × (at ≤ r + 60) ⌝ }
+    ensures { λ r. ⌜ Pushed r at (lenField 1 (encode (headerTo «reply_to»))) (now (out .entry)) (now (out .exit)) × (at ≤ r + 60) ⌝ }
 {
-    let a = fields_write_field::push_int(out, at, 7, kind);
-    let b = fields_write_optional::push_maybe(out, a, 6, ack);
-    let c = fields_write_field::push_int(out, b, 3, connection);
+    let a = fields_write_field::push_int(out, at, 7, reply_to.kind);
+    let b = fields_write_optional::push_maybe(out, a, 6, ack(reply_to));
+    let c = fields_write_field::push_int(out, b, 3, reply_to.connection);
     fields_write_field::push_head(out, c, 1, at - c)
 }
 
@@ -38,7 +60,8 @@ pub fn push_key_value(
     algorithm: u64,
 ) -> usize
     requires { ⌜ (length (now key) ≤ 64) × (length (now version) ≤ 16) × (length (now tag) ≤ 32) × (202 ≤ at) × (at ≤ length (now out)) ⌝ }
-    ensures { λ r. ⌜ Pushed r at (bodyBytes (keyValue (now (key .entry)) (now (version .entry)) (now (tag .entry)) algorithm)) (now (out .entry)) (now (out .exit)) × (at ≤ r + 202) ⌝ }
+    ensures { λ r. ⌜ Pushed r at (bodyBytes (keyValue (now (key .entry)) (now (version .entry)) (now (tag .entry)) algorithm))
+        (now (out .entry)) (now (out .exit)) × (at ≤ r + 202) ⌝ }
 {
     let a = fields_write_optional::push_nonzero(out, at, 6, algorithm);
     let b = fields_write_optional::push_nonempty(out, a, 5, tag);

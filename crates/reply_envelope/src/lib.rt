@@ -5,8 +5,9 @@ ghost use Prim.Native.Nat.{_+_, _≤_};
 ghost use lib.ListN.{length};
 ghost use Rattle.signature_hmac.specs.Hmac.{hmac as hmacOf};
 ghost use Rattle.fields_write_bytes.specs.Pushed.{Pushed};
-ghost use Rattle.fields_write_word.specs.Word.{be32};
+ghost use Rattle.fields_write_word.specs.Word.{low32Bytes};
 ghost use Rattle.reply_envelope.specs.Frames.{authBytes, Finished};
+use protocol::auth_type::HMACAUTH;
 use signature_hmac::Mac;
 
 // The hmac of a text under a key, neither of them too long.
@@ -29,13 +30,13 @@ fn push_auth(out: &mut [u8], at: usize, identity: u64, digest: &[u8]) -> usize
     let b = fields_write_bytes_field::push_raw(out, at, 2, digest);
     let c = fields_write_field::push_int(out, b, 1, identity);
     let d = fields_write_field::push_head(out, c, 5, at - c);
-    fields_write_field::push_int(out, d, 4, 1)
+    fields_write_field::push_int(out, d, 4, HMACAUTH)
 }
 
 // What stands before the message and the value of a frame.
 pub fn push_prefix(out: &mut [u8], at: usize, message: usize, value: usize) -> usize
     requires { ⌜ (9 ≤ at) × (at ≤ length (now out)) ⌝ }
-    ensures { λ r. ⌜ Pushed r at (0x46 ∷ (be32 message ++ be32 value)) (now (out .entry)) (now (out .exit)) ⌝ }
+    ensures { λ r. ⌜ Pushed r at (0x46 ∷ (low32Bytes message ++ low32Bytes value)) (now (out .entry)) (now (out .exit)) ⌝ }
 {
     let a = fields_write_word::push_be32(out, at, value);
     let b = fields_write_word::push_be32(out, a, message);

@@ -1,25 +1,21 @@
 -- The parts of a log in the runs that a writer makes of them, from its end to its front.
 use Prim.Native.Nat.{ℕ, _-_}
 use mathlib.Core.Path.{_≡_, refl, sym, ap}
-use mathlib.Core.Bool.{Bool, true, false}
+use mathlib.Core.Bool.{Bool, true, false, cond}
 use mathlib.Core.List.{List, [], _++_}
 use lib.ListN.{getD}
-use Rattle.fields_wire.specs.Reader.{choose}
 use Rattle.fields_wire.specs.Varint.{varintUp}
-use Rattle.fields_schema.specs.Tree.{mapO, guard, Tree, done, int, fix}
+use Rattle.fields_schema.specs.Tree.{mapO, guard, done, int, fix}
 use Rattle.fields_encoding.specs.Encode.{intField, head, lenField, floatBytes, fixField, encode, subO, eachSub}
 use Rattle.fields_write_bytes.specs.Pushed.{Pushed}
 use Rattle.fields_write_bytes.specs.PushedLaws.{_onto_, again, pushed-sub}
-use Rattle.fields_write_bytes.specs.TreeParts.{int-last, fix-last, sub-last, int-pushed, subO-pushed, eachSub-pushed, sub-none, sub-some}
-use Rattle.log_readings.specs.Lent.{Sample, placesFrom, sampleOf}
-use Rattle.protocol.specs.Command.{mapL}
+use Rattle.fields_write_bytes.specs.TreePartsLaws.{int-last, fix-last, sub-last, int-pushed, subO-pushed, eachSub-pushed, sub-none, sub-some}
+use Rattle.log_readings.specs.Lent.{Sample}
+use Rattle.base_definitions.specs.Lists.{mapL}
 use Rattle.protocol.specs.Judge.{Capacity, log, capacityOf, logWith}
 use Rattle.protocol.specs.Reply.{sampleTree, capacityTree, limitsTree, logTree}
 use Rattle.reply_command.specs.Parts.{bodyBytes}
-
--- the first four of the limits
-abbrev pub sizes : Tree
-sizes = int 1 64 (int 2 384 (int 3 16 (int 4 32 done)))
+use Rattle.reply_log_body.specs.LogSizes.{sizes, samplesIf}
 
 pub sizes-law : {r c b a at : ℕ} {l m1 m2 m3 n : List ℕ} → Pushed r c (intField 1 64) m3 n → Pushed c b (intField 2 384) m2 m3 → Pushed b a (intField 3 16) m1 m2
     → Pushed a at (intField 4 32) l m1 → Pushed r at (encode sizes) l n
@@ -56,16 +52,12 @@ pub capacity-left : (b : Bool) (c : Capacity) → b ≡ false → [] ≡ encode 
 capacity-left b c e = sub-none 4 (mapO capacityTree (guard b c)) (ap (λ (b : Bool). mapO capacityTree (guard b c)) e)
 
 pub samples-asked : (n : ℕ) (b : Bool) (xs : List Sample) → b ≡ true
-    → encode (eachSub n (mapL sampleTree xs) done) ≡ encode (eachSub n (mapL sampleTree (choose b xs [])) done)
-samples-asked n b xs e = ap (λ (b : Bool). encode (eachSub n (mapL sampleTree (choose b xs [])) done)) (sym e)
+    → encode (eachSub n (mapL sampleTree xs) done) ≡ encode (eachSub n (mapL sampleTree (cond b xs [])) done)
+samples-asked n b xs e = ap (λ (b : Bool). encode (eachSub n (mapL sampleTree (cond b xs [])) done)) (sym e)
 
-pub samples-left : (n : ℕ) (b : Bool) (xs : List Sample) → b ≡ false → [] ≡ encode (eachSub n (mapL sampleTree (choose b xs [])) done)
+pub samples-left : (n : ℕ) (b : Bool) (xs : List Sample) → b ≡ false → [] ≡ encode (eachSub n (mapL sampleTree (cond b xs [])) done)
 unfolding encode eachSub mapL
-samples-left n b xs e = ap (λ (b : Bool). encode (eachSub n (mapL sampleTree (choose b xs [])) done)) (sym e)
-
--- readings of either kind, if they are asked for: n places from the first on
-abbrev pub samplesIf : Bool → Bool → List ℕ → ℕ → ℕ → List Tree
-samplesIf asked temperature l first n = mapL sampleTree (choose asked (mapL (sampleOf temperature) (placesFrom l first n)) [])
+samples-left n b xs e = ap (λ (b : Bool). encode (eachSub n (mapL sampleTree (cond b xs [])) done)) (sym e)
 
 -- a body with a log
 pub log-law : {r e d c b a at u t : ℕ} {l m1 m2 m3 m4 m5 n : List ℕ} (store readings : List ℕ) (utilized heated filled limited : Bool)

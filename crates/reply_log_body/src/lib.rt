@@ -8,11 +8,20 @@ ghost use Rattle.fields_encoding.specs.Encode.{lenField, encode, subO, eachSub}
 ghost use Rattle.fields_write_bytes.specs.Pushed.{Pushed};
 ghost use Rattle.store_layout.specs.Store.{Good};
 ghost use Rattle.log_readings.specs.Lent.{readingsGood};
-ghost use Rattle.log_readings.specs.LentLaws.{Places};
-ghost use Rattle.protocol.specs.Judge.{log, capacityOf, logWith};
+ghost use Rattle.log_readings.specs.Places.{Places};
+ghost use Rattle.protocol.specs.Judge.{log, capacityOf};
 ghost use Rattle.protocol.specs.Reply.{capacityTree, limitsTree};
 ghost use Rattle.reply_command.specs.Parts.{bodyBytes};
-ghost use Rattle.reply_log_body.specs.LogLaws.{sizes, samplesIf};
+ghost use Rattle.reply_log_body.specs.Asked.{logBy};
+ghost use Rattle.reply_log_body.specs.LogSizes.{sizes, samplesIf};
+
+// The parts of a log: whether each is asked for.
+pub struct LogParts {
+    pub utilizations: bool,
+    pub temperatures: bool,
+    pub capacities: bool,
+    pub limits: bool,
+}
 
 // The most bytes of a key, a value, a version and a tag.
 fn push_sizes(out: &mut [u8], at: usize) -> usize
@@ -64,7 +73,8 @@ fn push_asked_limits(out: &mut [u8], at: usize, asked: bool) -> usize
 // The capacity, if it is asked for.
 fn push_asked_capacity(out: &mut [u8], at: usize, store: &[u8], asked: bool) -> usize
     requires { ⌜ Good (now store) × (39 ≤ at) × (at ≤ length (now out)) ⌝ }
-    ensures { λ r. ⌜ Pushed r at (encode (subO 4 (mapO capacityTree (guard asked (capacityOf (now (store .entry))))) done)) (now (out .entry)) (now (out .exit)) × (at ≤ r + 39) ⌝ }
+    ensures { λ r. ⌜ Pushed r at (encode (subO 4 (mapO capacityTree (guard asked (capacityOf (now (store .entry))))) done))
+        (now (out .entry)) (now (out .exit)) × (at ≤ r + 39) ⌝ }
 {
     if asked {
         return push_capacity(out, at, store);
@@ -84,7 +94,8 @@ fn push_asked_samples(
     asked: bool,
 ) -> usize
     requires { ⌜ Places (now readings) first count × (first ≤ 6) × (n < 2 ^ 29) × (220 ≤ at) × (at ≤ length (now out)) ⌝ }
-    ensures { λ r. ⌜ Pushed r at (encode (eachSub n (samplesIf asked temperature (now (readings .entry)) first count) done)) (now (out .entry)) (now (out .exit)) × (at ≤ r + 220) ⌝ }
+    ensures { λ r. ⌜ Pushed r at (encode (eachSub n (samplesIf asked temperature (now (readings .entry)) first count) done))
+        (now (out .entry)) (now (out .exit)) × (at ≤ r + 220) ⌝ }
 {
     if asked {
         return reply_log_sample::push_samples(out, at, n, readings, first, count, temperature);
@@ -93,25 +104,17 @@ fn push_asked_samples(
 }
 
 // A body with a log of the parts that are asked for, which is there even when empty.
-pub fn push_log(
-    out: &mut [u8],
-    at: usize,
-    store: &[u8],
-    readings: &[u8],
-    utilized: bool,
-    heated: bool,
-    filled: bool,
-    limited: bool,
-) -> usize
+pub fn push_log(out: &mut [u8], at: usize, store: &[u8], readings: &[u8], parts: LogParts) -> usize
     requires { ⌜ Good (now store) × (readingsGood (now readings) ≡ true) × (629 ≤ at) × (at ≤ length (now out)) ⌝ }
-    ensures { λ r. ⌜ Pushed r at (bodyBytes (log (logWith (now (store .entry)) (now (readings .entry)) utilized heated filled limited))) (now (out .entry)) (now (out .exit)) × (at ≤ r + 629) ⌝ }
+    ensures { λ r. ⌜ Pushed r at (bodyBytes (log (logBy (now (store .entry)) (now (readings .entry)) parts)))
+        (now (out .entry)) (now (out .exit)) × (at ≤ r + 629) ⌝ }
 {
-    let a = push_asked_limits(out, at, limited);
-    let b = push_asked_capacity(out, a, store, filled);
+    let a = push_asked_limits(out, at, parts.limits);
+    let b = push_asked_capacity(out, a, store, parts.capacities);
     let t = log_readings::temperatures(readings);
-    let c = push_asked_samples(out, b, 3, readings, 0, t, true, heated);
+    let c = push_asked_samples(out, b, 3, readings, 0, t, true, parts.temperatures);
     let u = log_readings::utilizations(readings);
-    let d = push_asked_samples(out, c, 2, readings, 4, u, false, utilized);
+    let d = push_asked_samples(out, c, 2, readings, 4, u, false, parts.utilizations);
     let e = fields_write_field::push_head(out, d, 6, at - d);
     fields_write_field::push_head(out, e, 2, at - e)
 }

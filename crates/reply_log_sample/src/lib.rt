@@ -6,7 +6,7 @@ ghost use Rattle.fields_encoding.specs.Encode.{lenField, floatBytes, encode, fi
 ghost use Rattle.fields_write_bytes.specs.Pushed.{Pushed};
 ghost use Rattle.log_binary32.specs.Celsius.{sentBits};
 ghost use Rattle.log_readings.specs.Lent.{placeAt, sampleOf};
-ghost use Rattle.log_readings.specs.LentLaws.{Placed, Places};
+ghost use Rattle.log_readings.specs.Places.{Placed, Places};
 ghost use Rattle.protocol.specs.Reply.{sampleTree};
 ghost use Rattle.reply_log_sample.specs.Samples.{sampleTrees};
 use log_binary32::Sent;
@@ -32,7 +32,8 @@ fn push_sample(
     temperature: bool,
 ) -> usize
     requires { ⌜ Placed (now readings) place × (n < 2 ^ 29) × (55 ≤ at) × (at ≤ length (now out)) ⌝ }
-    ensures { λ r. ⌜ Pushed r at (lenField n (encode (sampleTree (sampleOf temperature (placeAt (now (readings .entry)) place))))) (now (out .entry)) (now (out .exit)) × (at ≤ r + 55) ⌝ }
+    ensures { λ r. ⌜ Pushed r at (lenField n (encode (sampleTree (sampleOf temperature (placeAt (now (readings .entry)) place)))))
+        (now (out .entry)) (now (out .exit)) × (at ≤ r + 55) ⌝ }
 {
     let value = log_sample::value_at(readings, place, temperature);
     let a = push_sent(out, at, value);
@@ -52,7 +53,8 @@ pub fn push_samples(
     temperature: bool,
 ) -> usize
     requires { ⌜ Places (now readings) first count × (first ≤ 6) × (n < 2 ^ 29) × (220 ≤ at) × (at ≤ length (now out)) ⌝ }
-    ensures { λ r. ⌜ Pushed r at (encode (eachSub n (sampleTrees temperature (now (readings .entry)) first count) done)) (now (out .entry)) (now (out .exit)) × (at ≤ r + 220) ⌝ }
+    ensures { λ r. ⌜ Pushed r at (encode (eachSub n (sampleTrees temperature (now (readings .entry)) first count) done))
+        (now (out .entry)) (now (out .exit)) × (at ≤ r + 220) ⌝ }
 {
     let mut i = count;
     let mut p = at;

@@ -10,7 +10,7 @@ use Rattle.fields_schema.specs.Tree.{done}
 use Rattle.fields_encoding.specs.Encode.{head, lenField, encode, each}
 use Rattle.fields_write_bytes.specs.Pushed.{Pushed}
 use Rattle.fields_write_bytes.specs.PushedLaws.{again, pushed-none, pushed-sub}
-use Rattle.fields_write_bytes.specs.TreeParts.{sub-last, each-pushed}
+use Rattle.fields_write_bytes.specs.TreePartsLaws.{sub-last, each-pushed}
 use Rattle.store_block.specs.Entry.{Entry}
 use Rattle.store_layout.specs.declared.Parts.{Parts}
 use Rattle.store_layout.specs.Store.{entriesOf, AllFit, Good}

@@ -43,7 +43,8 @@ fn push_keys(
     reverse: bool,
 ) -> usize
     requires { ⌜ Good (now store) × Run first count reverse × (2528 ≤ at) × (at ≤ length (now out)) ⌝ }
-    ensures { λ r. ⌜ Pushed r at (encode (each 8 (keysFrom reverse first count (entriesOf (now (store .entry)))) done)) (now (out .entry)) (now (out .exit)) × (at ≤ r + 2528) ⌝ }
+    ensures { λ r. ⌜ Pushed r at (encode (each 8 (keysFrom reverse first count (entriesOf (now (store .entry)))) done))
+        (now (out .entry)) (now (out .exit)) × (at ≤ r + 2528) ⌝ }
 {
     let mut i = count;
     let mut p = at;
@@ -64,7 +65,8 @@ pub fn push_range(
     reverse: bool,
 ) -> usize
     requires { ⌜ Good (now store) × Run first count reverse × (2558 ≤ at) × (at ≤ length (now out)) ⌝ }
-    ensures { λ r. ⌜ Pushed r at (bodyBytes (range (keysFrom reverse first count (entriesOf (now (store .entry)))))) (now (out .entry)) (now (out .exit)) × (at ≤ r + 2558) ⌝ }
+    ensures { λ r. ⌜ Pushed r at (bodyBytes (range (keysFrom reverse first count (entriesOf (now (store .entry))))))
+        (now (out .entry)) (now (out .exit)) × (at ≤ r + 2558) ⌝ }
 {
     let a = push_keys(out, at, store, first, count, reverse);
     let b = fields_write_field::push_head(out, a, 2, at - a);

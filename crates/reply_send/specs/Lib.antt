@@ -1,2 +1,3 @@
 pub mod Sent
 pub mod SentLaws
+pub mod Answers

@@ -5,7 +5,7 @@ ghost use Prim.Native.Nat.{ℕ, _≤_};
 ghost use lib.ListN.{length};
 ghost use Rattle.protocol.specs.State.{lent};
 ghost use Rattle.protocol.specs.Box.{close};
-ghost use Rattle.protocol_connection.specs.Means.{connectionOf};
+ghost use Rattle.protocol_connection.specs.ConnectionOf.{connectionOf};
 ghost use Rattle.reply_send.specs.Sent.{Sent};
 
 // A reply of so many bytes, and the connection after it.
@@ -17,7 +17,9 @@ pub struct Replied {
 // The closing reply with a code.
 pub fn close(connection: Connection, out: &mut [u8], code: u64) -> Replied
     requires { ⌜ 4096 ≤ length (now out) ⌝ }
-    ensures { λ r. ⌜ ((store device readings : List ℕ) → Sent (close (lent store device readings (connectionOf connection)) code) (r .written) (now (out .entry)) (now (out .exit)) (lent store device readings (connectionOf (r .connection)))) ⌝ }
+    ensures { λ r. ⌜ ((store device readings : List ℕ) →
+        Sent (close (lent store device readings (connectionOf connection)) code) (r .written)
+        (now (out .entry)) (now (out .exit)) (lent store device readings (connectionOf (r .connection)))) ⌝ }
 {
     Replied {
         written: reply_closing::put_closing(out, connection.number, code),

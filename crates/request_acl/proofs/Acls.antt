@@ -2,7 +2,7 @@
 use Prim.Native.Nat.{ℕ, suc, _+_, _≤_, _<_}
 use mathlib.Core.Path.{_≡_, refl, sym, ap, ap₂, _∙_}
 use mathlib.Core.List.{List, [], _∷_}
-use mathlib.Core.Bool.{Bool, true, false}
+use mathlib.Core.Bool.{Bool, true, false, _&&_}
 use lib.ListN.{length}
 use lib.Dec.{leb}
 use borrow.Author.Tests.{le-leb, lt-leb}
@@ -10,17 +10,19 @@ use Rattle.fields_schema.specs.Tree.{level, guard, isSome, rawAt}
 use Rattle.fields_decode.specs.Slots.{Tells}
 use Rattle.fields_schema.specs.declared.Kind.the-variants as kind
 use Rattle.fields_decode.specs.declared.slots.Slots.{Slots}
-use Rattle.access_record.specs.Table.{both, all, within, scopeGood, aclGood}
+use Rattle.base_definitions.specs.Options.{orElse}
+use Rattle.base_definitions.specs.Lists.{all, within, mapL}
+use Rattle.access_record.specs.Table.{scopeGood, aclGood}
 use Rattle.access_table_write.specs.Write.{putScope, putScopes, putAcl}
-use Rattle.fields_lookup.specs.Views.{Inside, bytesAt, treeOf, orEmpty, numView, NumIs, PartIs}
+use Rattle.fields_lookup.specs.Views.{Inside, bytesAt, treeOf, numView, NumIs, PartIs}
 use Rattle.fields_lookup.specs.declared.parts.Num.{Num}
 use Rattle.fields_lookup.specs.declared.parts.Part.{Part}
 use Rattle.fields_lookup.proofs.Slotted.{length-at}
-use Rattle.protocol.specs.Command.{Scope, Acl, orElse, mapL}
-use Rattle.protocol.specs.Judge.{permissionsGood, aclRead, wantedScope, wantedAcl}
+use Rattle.protocol.specs.Command.{Scope, Acl}
+use Rattle.protocol.specs.Judge.{permissionsGood, aclRead, wantedScope}
 use Rattle.request_scope.specs.Stands.{StandsAcl, aclIn}
 use Rattle.request_scope.specs.Scope.{scopeTaken}
-use Rattle.request_scope.specs.Laws.{both-false, level-at, or-empty}
+use Rattle.request_scope.specs.ScopeLaws.{both-false, level-at, or-empty}
 use Rattle.request_acl.specs.Taken.{scopesTaken, aclTaken, putOne, Makes}
 use Rattle.request_acl.proofs.Scopes.{makes-no}
 
@@ -48,36 +50,36 @@ length-map g (x ∷ xs) = ap (λ (n : ℕ). suc n) (length-map g xs)
 pub all-map : {A B : Type 0} (f : B → Bool) (g : A → B) (xs : List A) → all f (mapL g xs) ≡ all (λ x. f (g x)) xs
 unfolding mapL all
 all-map f g [] = refl
-all-map f g (x ∷ xs) = ap (both (f (g x))) (all-map f g xs)
+all-map f g (x ∷ xs) = ap (_&&_ (f (g x))) (all-map f g xs)
 
-swap : (a b c d : Bool) → both (both a b) (both c d) ≡ both (both a c) (both b d)
+swap : (a b c d : Bool) → ((a && b) && (c && d)) ≡ ((a && c) && (b && d))
 swap true true c d = refl
 swap true false true d = refl
 swap true false false d = refl
 swap false b c d = refl
 
-pub all-both : {A : Type 0} (f g : A → Bool) (xs : List A) → all (λ x. both (f x) (g x)) xs ≡ both (all f xs) (all g xs)
+pub all-both : {A : Type 0} (f g : A → Bool) (xs : List A) → all (λ x. (f x && g x)) xs ≡ (all f xs && all g xs)
 unfolding all
 all-both f g [] = refl
-all-both f g (x ∷ xs) = ap (both (both (f x) (g x))) (all-both f g xs) ∙ swap (f x) (g x) (all f xs) (all g xs)
+all-both f g (x ∷ xs) = ap (_&&_ (f x && g x)) (all-both f g xs) ∙ swap (f x) (g x) (all f xs) (all g xs)
 
 -- ---- the rules of an ACL
-order : (i a w v b : Bool) → both (both i a) (both w (both v b)) ≡ both i (both w (both v (both a b)))
+order : (i a w v b : Bool) → ((i && a) && (w && (v && b))) ≡ (i && (w && (v && (a && b))))
 order false a w v b = refl
 order true true w v b = refl
 order true false true true b = refl
 order true false true false b = refl
 order true false false v b = refl
 
-scopes-all : (cs : List Scope) → all scopeTaken cs ≡ both (all permissionsGood cs) (all scopeGood (mapL wantedScope cs))
+scopes-all : (cs : List Scope) → all scopeTaken cs ≡ (all permissionsGood cs && all scopeGood (mapL wantedScope cs))
 unfolding scopeTaken
-scopes-all cs = all-both permissionsGood (λ c. scopeGood (wantedScope c)) cs ∙ ap (both (all permissionsGood cs)) (sym (all-map scopeGood wantedScope cs))
+scopes-all cs = all-both permissionsGood (λ c. scopeGood (wantedScope c)) cs ∙ ap (_&&_ (all permissionsGood cs)) (sym (all-map scopeGood wantedScope cs))
 
-acl-test : (a : Acl) → aclTaken a ≡ both (isSome (a .identity)) (both (within 1 64 (length (a .key))) (scopesTaken (a .scopes)))
+acl-test : (a : Acl) → aclTaken a ≡ (isSome (a .identity) && (within 1 64 (length (a .key)) && scopesTaken (a .scopes)))
 unfolding aclTaken aclRead aclGood scopesTaken
 acl-test a =
     order (isSome (a .identity)) (all permissionsGood (a .scopes)) (within 1 64 (length (a .key))) (within 1 4 (length (mapL wantedScope (a .scopes)))) (all scopeGood (mapL wantedScope (a .scopes)))
-    ∙ ap₂ (λ (n : ℕ) (b : Bool). both (isSome (a .identity)) (both (within 1 64 (length (a .key))) (both (within 1 4 n) b))) (length-map wantedScope (a .scopes)) (sym (scopes-all (a .scopes)))
+    ∙ ap₂ (λ (n : ℕ) (b : Bool). (isSome (a .identity) && (within 1 64 (length (a .key)) && (within 1 4 n && b)))) (length-map wantedScope (a .scopes)) (sym (scopes-all (a .scopes)))
 
 -- ---- what was read of an ACL
 pub record AclFacts (s : List ℕ) (p : Part) (identity : Num) (key : Part) : Type 0 where
@@ -92,7 +94,7 @@ acl-facts s p t y h identity x key v =
     record {
       place = v .lies .inside;
       identity-is = x kind.Acl (bytesAt s p) l refl;
-      key-is = v .lies .empty ∙ ap orEmpty (v .bytes kind.Acl l refl) ∙ or-empty (rawAt 2 (treeOf kind.Acl (bytesAt s p)));
+      key-is = v .lies .empty ∙ ap (orElse []) (v .bytes kind.Acl l refl) ∙ or-empty (rawAt 2 (treeOf kind.Acl (bytesAt s p)));
     }
 
 module _ {s : List ℕ} {p : Part} {identity : Num} {key : Part} (f : AclFacts s p identity key) (out bytes : List ℕ) where
@@ -100,21 +102,21 @@ module _ {s : List ℕ} {p : Part} {identity : Num} {key : Part} (f : AclFacts s
   acl-nameless e =
       let a = aclIn s p in
       let n : isSome (a .identity) ≡ false = ap isSome (sym (f .identity-is) ∙ ap (λ (b : Bool). guard b (identity .value)) e) in
-      makes-no (aclTaken a) out bytes (acl-test a ∙ ap (λ (b : Bool). both b (both (within 1 64 (length (a .key))) (scopesTaken (a .scopes)))) n)
+      makes-no (aclTaken a) out bytes (acl-test a ∙ ap (λ (b : Bool). (b && (within 1 64 (length (a .key)) && scopesTaken (a .scopes)))) n)
 
   key-bad : within 1 64 (length (aclIn s p .key)) ≡ false → Makes (aclTaken (aclIn s p)) false out bytes
   key-bad e =
       let a = aclIn s p in
-      makes-no (aclTaken a) out bytes (acl-test a ∙ ap (λ (b : Bool). both (isSome (a .identity)) (both b (scopesTaken (a .scopes)))) e ∙ both-false (isSome (a .identity)))
+      makes-no (aclTaken a) out bytes (acl-test a ∙ ap (λ (b : Bool). (isSome (a .identity) && (b && scopesTaken (a .scopes)))) e ∙ both-false (isSome (a .identity)))
 
   key-length : length (aclIn s p .key) ≡ key .len
   key-length = ap length (sym (f .key-is)) ∙ length-at s key (f .place)
 
   pub acl-keyless : key .len < 1 → Makes (aclTaken (aclIn s p)) false out bytes
-  acl-keyless l = key-bad (ap (within 1 64) key-length ∙ ap (λ (b : Bool). both b (leb (key .len) 64)) (lt-leb 1 (key .len) l))
+  acl-keyless l = key-bad (ap (within 1 64) key-length ∙ ap (λ (b : Bool). (b && leb (key .len) 64)) (lt-leb 1 (key .len) l))
 
   pub acl-long : 64 < key .len → Makes (aclTaken (aclIn s p)) false out bytes
-  acl-long l = key-bad (ap (within 1 64) key-length ∙ ap (both (leb 1 (key .len))) (lt-leb (key .len) 64 l) ∙ both-false (leb 1 (key .len)))
+  acl-long l = key-bad (ap (within 1 64) key-length ∙ ap (_&&_ (leb 1 (key .len))) (lt-leb (key .len) 64 l) ∙ both-false (leb 1 (key .len)))
 
 pub acl-made : {s : List ℕ} {p : Part} {identity : Num} {key : Part} → AclFacts s p identity key → identity .has ≡ true → 1 ≤ key .len → key .len ≤ 64
     → (device between out : List ℕ) (place : ℕ) (k : List ℕ) (r : Bool) → k ≡ bytesAt s key → between ≡ putAcl device place (identity .value) k
@@ -124,9 +126,9 @@ acl-made {s} {p} {identity} {key} f h low high device between out place k r q e 
     let a = aclIn s p in
     let there : guard true (identity .value) ≡ a .identity = ap (λ (b : Bool). guard b (identity .value)) (sym h) ∙ f .identity-is in
     let n : isSome (a .identity) ≡ true = ap isSome (sym there) in
-    let w : within 1 64 (length (a .key)) ≡ true = ap (within 1 64) (ap length (sym (f .key-is)) ∙ length-at s key (f .place)) ∙ ap₂ both (le-leb 1 (key .len) low) (le-leb (key .len) 64 high) in
+    let w : within 1 64 (length (a .key)) ≡ true = ap (within 1 64) (ap length (sym (f .key-is)) ∙ length-at s key (f .place)) ∙ ap₂ _&&_ (le-leb 1 (key .len) low) (le-leb (key .len) 64 high) in
     let v : identity .value ≡ orElse 0 (a .identity) = ap (orElse 0) there in
     record {
-      answer = m .answer ∙ sym (acl-test a ∙ ap₂ (λ (b c : Bool). both b (both c (scopesTaken (a .scopes)))) n w);
+      answer = m .answer ∙ sym (acl-test a ∙ ap₂ (λ (b c : Bool). (b && (c && scopesTaken (a .scopes)))) n w);
       made = λ t. m .made t ∙ ap (λ (l : List ℕ). putScopes l place 0 (mapL wantedScope (a .scopes))) (e ∙ ap₂ (λ (i : ℕ) (b : List ℕ). putAcl device place i b) v (q ∙ f .key-is));
     }

@@ -1,17 +1,17 @@
 -- The bytes of one scope.
 use Prim.Native.Nat.{ℕ, _+_, _-_, _≤_}
 use native.Mathlib.Omega.{arith}
-use mathlib.Core.Path.{_≡_, sym, ap, subst}
+use mathlib.Core.Path.{_≡_, sym, subst}
 use mathlib.Core.List.{List}
 use mathlib.Core.Bool.{Bool, false}
 use lib.ListN.{length, take, drop}
 use Rattle.access_record.specs.Table as access
 use Rattle.fields_lookup.specs.Views.{Inside, bytesAt}
 use Rattle.fields_lookup.specs.declared.parts.Part.{Part}
-use Rattle.fields_lookup.specs.Slices.{slice-at}
+use Rattle.fields_lookup.specs.SliceLaws.{slice-at}
 use Rattle.fields_lookup.proofs.Slotted.{length-at}
 use Rattle.request_scope.specs.Scope.{scopeView}
-use Rattle.request_scope.specs.Laws.{never}
+use Rattle.request_scope.specs.ScopeLaws.{never}
 use Rattle.request_scope.specs.declared.ReadScope.{ReadScope}
 use Rattle.request_acl.specs.Taken.{Makes}
 

@@ -2,11 +2,13 @@
 use Prim.Native.Nat.{ℕ}
 use mathlib.Core.Path.{_≡_}
 use mathlib.Core.List.{List}
-use mathlib.Core.Bool.{Bool, true}
+use mathlib.Core.Bool.{Bool, true, _&&_}
 use lib.ListN.{length}
-use Rattle.access_record.specs.Table.{both, all, within, aclGood}
+use Rattle.base_definitions.specs.Options.{orElse}
+use Rattle.base_definitions.specs.Lists.{all, within, mapL}
+use Rattle.access_record.specs.Table.{aclGood}
 use Rattle.access_table_write.specs.Write.{putAcl, putScopes}
-use Rattle.protocol.specs.Command.{Scope, Acl, orElse, mapL}
+use Rattle.protocol.specs.Command.{Scope, Acl}
 use Rattle.protocol.specs.Judge.{aclRead, wantedScope, wantedAcl}
 use Rattle.request_scope.specs.Scope.{scopeTaken}
 
@@ -17,7 +19,7 @@ pub record Makes (good r : Bool) (out bytes : List ℕ) : Type 0 where
 
 -- between one and so many, each of which keeps its rules
 abbrev pub fewTaken : {A : Type 0} → ℕ → (A → Bool) → List A → Bool
-fewTaken most f xs = both (within 1 most (length xs)) (all f xs)
+fewTaken most f xs = within 1 most (length xs) && all f xs
 
 -- "1 to 4 scopes"
 unfoldable pub scopesTaken : List Scope → Bool
@@ -25,7 +27,7 @@ scopesTaken cs = fewTaken 4 scopeTaken cs
 
 -- the ACL rules of one ACL: its identity present, and those of the table
 unfoldable pub aclTaken : Acl → Bool
-aclTaken a = both (aclRead a) (aclGood (wantedAcl a))
+aclTaken a = aclRead a && aclGood (wantedAcl a)
 
 -- one ACL with its scopes, as the record holds them
 unfoldable pub putOne : List ℕ → ℕ → Acl → List ℕ

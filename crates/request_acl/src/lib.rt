@@ -1,6 +1,6 @@
 // One ACL of the Security part of a command, with its scopes: judged by the ACL rules and written into a device record.
 ghost use Prim.Native.Nat.{_<_};
-ghost use Rattle.protocol.specs.Command.{mapL};
+ghost use Rattle.base_definitions.specs.Lists.{mapL};
 ghost use Rattle.protocol.specs.Judge.{wantedScope};
 ghost use Rattle.access_table_write.specs.Write.{putScope, putScopes};
 ghost use Rattle.request_scope.specs.Stands.{StandsScope, StandsAcl, scopeIn, aclIn};
@@ -22,7 +22,8 @@ use request_scope::read_scope;
 // The scope in the part p, judged and written as scope `number` of ACL `place`.
 pub fn add_scope_from(s: &[u8], p: Part, device: &mut Record, place: usize, number: usize) -> bool
     requires { ⌜ (place < 8) × (number < 4) × StandsScope (now s) p ⌝ }
-    ensures { λ r. ⌜ Makes (scopeTaken (scopeIn (now (s .entry)) p)) r (now (device .exit)) (putScope (now (device .entry)) place number (wantedScope (scopeIn (now (s .entry)) p))) ⌝ }
+    ensures { λ r. ⌜ Makes (scopeTaken (scopeIn (now (s .entry)) p)) r (now (device .exit))
+        (putScope (now (device .entry)) place number (wantedScope (scopeIn (now (s .entry)) p))) ⌝ }
 {
     let c = read_scope(s, p);
     let ok = c.ok;
@@ -48,7 +49,8 @@ pub fn add_scope_from(s: &[u8], p: Part, device: &mut Record, place: usize, numb
 // The scopes of the ACL in the part p, judged and written as those of ACL `place`.
 fn add_scopes(s: &[u8], p: Part, device: &mut Record, place: usize) -> bool
     requires { ⌜ (place < 8) × StandsAcl (now s) p ⌝ }
-    ensures { λ r. ⌜ Makes (scopesTaken (aclIn (now (s .entry)) p .scopes)) r (now (device .exit)) (putScopes (now (device .entry)) place 0 (mapL wantedScope (aclIn (now (s .entry)) p .scopes))) ⌝ }
+    ensures { λ r. ⌜ Makes (scopesTaken (aclIn (now (s .entry)) p .scopes)) r (now (device .exit))
+        (putScopes (now (device .entry)) place 0 (mapL wantedScope (aclIn (now (s .entry)) p .scopes))) ⌝ }
 {
     let mut left = p;
     let mut n: usize = 0;

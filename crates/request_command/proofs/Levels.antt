@@ -4,24 +4,25 @@ use native.Mathlib.Omega.{arith}
 use mathlib.Core.Path.{_≡_, refl, sym, ap, subst, _∙_}
 use mathlib.Core.List.{List, [], _∷_}
 use mathlib.Core.Option.{Option, none, some}
-use mathlib.Core.Bool.{Bool, true, false}
+use mathlib.Core.Bool.{Bool, true, false, cond}
 use lib.Dec.{leb, ltb}
 use lib.ListN.{length, length-append}
 use borrow.Author.Tests.{leb-true, le-leb, lt-leb, lt-ltb}
-use Rattle.fields_wire.specs.Reader.{choose}
 use Rattle.fields_schema.specs.Tree.{mapO, thenO, guard, isSome, listed, Tree, done, join, subAt, treeIn, subsAt}
-use Rattle.fields_schema.specs.Merged.{joined, sub-join, sub-in, subs-join, isCons, sub-some}
+use Rattle.fields_schema.specs.Merged.{joined, isCons}
+use Rattle.fields_schema.specs.MergedLaws.{sub-join, sub-in, subs-join, sub-some}
 use Rattle.fields_schema.specs.OptionLaws.{none-of}
 use Rattle.fields_schema.specs.declared.Kind.{Kind}
 use Rattle.fields_schema.specs.declared.Kind.the-variants as k
-use Rattle.fields_lookup.specs.Views.{orEmpty, Reads, treeOf, bytesAt, numView, partView, noPart, Lies, After, Merges, Sub}
+use Rattle.base_definitions.specs.Options.{orElse}
+use Rattle.fields_lookup.specs.Views.{Reads, treeOf, bytesAt, numView, partView, noPart, Lies, After, Merges, Sub}
 use Rattle.fields_lookup.specs.LevelLaws.{tree-is}
 use Rattle.fields_lookup.specs.LaterLaws.{num-later, later-is}
 use Rattle.fields_lookup.specs.declared.parts.Num.{Num}
 use Rattle.fields_lookup.specs.declared.parts.Part.{Part}
 use Rattle.fields_lookup.proofs.Slotted.{sub-view, nil-at, nil-reads}
 use Rattle.protocol.specs.Command as c
-use Rattle.protocol.specs.Command.{orElse, noBody, headerOf, keyValueOf, rangeOf, setupOf, typesOf, securityOf, bodyOf, commandOf}
+use Rattle.protocol.specs.Command.{noBody, headerOf, keyValueOf, rangeOf, setupOf, typesOf, securityOf, bodyOf, commandOf}
 use Rattle.protocol.specs.Judge.{noKeyValue, noRange}
 use Rattle.protocol.specs.Reading.{securityOnce, sentOnce, decodes}
 use Rattle.request_parts.specs.Views.{headerView, keyValueView, rangeView, HeaderIs, KeyValueIs, RangeIs}
@@ -57,7 +58,7 @@ bytes-there f z g n o b x s p e w l q =
     go none = sym n
     go (some t) = refl
 
-    whole : (o : Option (List ℕ)) → bytesAt s p ≡ orEmpty o → orElse [] o ≡ bytesAt s p
+    whole : (o : Option (List ℕ)) → bytesAt s p ≡ orElse [] o → orElse [] o ≡ bytesAt s p
     whole none e = sym e
     whole (some b) e = sym e
 
@@ -88,14 +89,14 @@ pub no-lies : (s : List ℕ) (b : Body) → BodyIs s done b → BodyLies s b
 no-lies s b h = body-lies s done b h (λ e. never e (h .logged))
 
 -- one body after others --------------------------------------------------------------------------------
-some-joined : (x y : Option Tree) → isSome (joined x y) ≡ choose (isSome x) true (isSome y)
+some-joined : (x y : Option Tree) → isSome (joined x y) ≡ cond (isSome x) true (isSome y)
 some-joined none y = refl
 some-joined (some s) none = refl
 some-joined (some s) (some u) = refl
 
-there-join : (n : ℕ) (t u : Tree) (x y r : Bool) → x ≡ isSome (subAt n t) → y ≡ isSome (subAt n u) → r ≡ choose x true y → r ≡ isSome (subAt n (join t u))
+there-join : (n : ℕ) (t u : Tree) (x y r : Bool) → x ≡ isSome (subAt n t) → y ≡ isSome (subAt n u) → r ≡ cond x true y → r ≡ isSome (subAt n (join t u))
 there-join n t u x y r e f g =
-    g ∙ ap (λ b. choose b true y) e ∙ ap (choose (isSome (subAt n t)) true) f ∙ sym (ap isSome (sub-join n t u) ∙ some-joined (subAt n t) (subAt n u))
+    g ∙ ap (λ b. cond b true y) e ∙ ap (cond (isSome (subAt n t)) true) f ∙ sym (ap isSome (sub-join n t u) ∙ some-joined (subAt n t) (subAt n u))
 
 cons-length : {A : Type 0} (l : List A) → isCons l ≡ true → 1 ≤ length l
 cons-length [] e = never e refl
@@ -113,13 +114,13 @@ join-length : (t u : Tree) → length (subsAt 7 (join t u)) ≡ length (subsAt 7
 join-length t u = ap length (subs-join 7 t u) ∙ length-append (subsAt 7 t) (subsAt 7 u)
 
 module _ (s : List ℕ) (t u : Tree) (a e : Part) (x : length (subsAt 7 t) ≤ 1 → Sub k.Security s a (subAt 7 t)) (y : length (subsAt 7 u) ≤ 1 → Sub k.Security s e (subAt 7 u)) where
-  secure-join : length (subsAt 7 (join t u)) ≤ 1 → Sub k.Security s (choose (e .has) e a) (subAt 7 (join t u))
+  secure-join : length (subsAt 7 (join t u)) ≤ 1 → Sub k.Security s (cond (e .has) e a) (subAt 7 (join t u))
   secure-join l = go (e .has) refl
     where
       after : Sub k.Security s e (subAt 7 u)
       after = y (omega (arith, join-length t u))
 
-      go : (b : Bool) → e .has ≡ b → Sub k.Security s (choose b e a) (subAt 7 (join t u))
+      go : (b : Bool) → e .has ≡ b → Sub k.Security s (cond b e a) (subAt 7 (join t u))
       go true q =
           let i : 1 ≤ length (subsAt 7 u) = cons-length (subsAt 7 u) (sym (sub-some 7 u) ∙ sym (after .here) ∙ q) in
           let n : subAt 7 t ≡ none = none-of (subAt 7 t) (sub-some 7 t ∙ nil-cons (subsAt 7 t) (omega (arith, join-length t u))) in
@@ -128,24 +129,24 @@ module _ (s : List ℕ) (t u : Tree) (a e : Part) (x : length (subsAt 7 t) ≤ 1
           let n : subAt 7 u ≡ none = none-of (subAt 7 u) (sym (after .here) ∙ q) in
           subst (λ (o : Option Tree). Sub k.Security s a o) (sym (sub-join 7 t u ∙ ap (joined (subAt 7 t)) n ∙ joined-none (subAt 7 t))) (x (omega (arith, join-length t u)))
 
-has-later : (e a : Part) → choose (e .has) e a .has ≡ choose (a .has) true (e .has)
+has-later : (e a : Part) → cond (e .has) e a .has ≡ cond (a .has) true (e .has)
 has-later e a = go (e .has) (a .has) refl
   where
-    go : (x y : Bool) → e .has ≡ x → choose x e a .has ≡ choose (a .has) true x
+    go : (x y : Bool) → e .has ≡ x → cond x e a .has ≡ cond (a .has) true x
     go true y q = q ∙ sym (either (a .has))
       where
-        either : (b : Bool) → choose b true true ≡ true
+        either : (b : Bool) → cond b true true ≡ true
         either true = refl
         either false = refl
     go false y q = same (a .has)
       where
-        same : (b : Bool) → b ≡ choose b true false
+        same : (b : Bool) → b ≡ cond b true false
         same true = refl
         same false = refl
 
 pub bodies-law : (s : List ℕ) (b a : Body) (k1 k2 k3 k6 : Bool) (x : KeyValue) (y : Range) (w : Num) (q : Part)
-    → k1 ≡ choose (b .keyed) true (a .keyed) → k2 ≡ choose (b .ranged) true (a .ranged) → k3 ≡ choose (b .changed) true (a .changed) → k6 ≡ choose (b .logged) true (a .logged)
-    → Merges (KeyValueIs s) (b .entry) (a .entry) x → Merges (RangeIs s) (b .range) (a .range) y → w ≡ choose (a .cluster .has) (a .cluster) (b .cluster) → q ≡ choose (a .security .has) (a .security) (b .security)
+    → k1 ≡ cond (b .keyed) true (a .keyed) → k2 ≡ cond (b .ranged) true (a .ranged) → k3 ≡ cond (b .changed) true (a .changed) → k6 ≡ cond (b .logged) true (a .logged)
+    → Merges (KeyValueIs s) (b .entry) (a .entry) x → Merges (RangeIs s) (b .range) (a .range) y → w ≡ cond (a .cluster .has) (a .cluster) (b .cluster) → q ≡ cond (a .security .has) (a .security) (b .security)
     → Merges (BodyIs s) b a (record { keyed = k1; entry = x; ranged = k2; range = y; changed = k3; cluster = w; logged = k6; security = q })
 bodies-law s b a k1 k2 k3 k6 x y w q e1 e2 e3 e6 f1 f2 f3 f7 t u h g = record {
   keyed = there-join 1 t u (b .keyed) (a .keyed) k1 (h .keyed) (g .keyed) e1;
@@ -163,15 +164,15 @@ bodies-law s b a k1 k2 k3 k6 x y w q e1 e2 e3 e6 f1 f2 f3 f7 t u h g = record {
 
 -- how many securities ------------------------------------------------------------------------------------
 few : (n : ℕ) → n ≤ 1 → capped n ≡ n
-few n h = ap (λ b. choose b n 2) (le-leb n 1 h)
+few n h = ap (λ b. cond b n 2) (le-leb n 1 h)
 
 many : (n : ℕ) → 1 < n → capped n ≡ 2
-many n h = ap (λ b. choose b n 2) (lt-leb n 1 h)
+many n h = ap (λ b. cond b n 2) (lt-leb n 1 h)
 
 pub capped-test : (n : ℕ) → ltb (capped n) 2 ≡ leb n 1
 capped-test n = go (leb n 1) refl
   where
-    go : (b : Bool) → leb n 1 ≡ b → ltb (choose b n 2) 2 ≡ b
+    go : (b : Bool) → leb n 1 ≡ b → ltb (cond b n 2) 2 ≡ b
     go true e = let l : n ≤ 1 = leb-true n 1 e in lt-ltb n 2 (omega arith)
     go false e = refl
 
@@ -196,7 +197,7 @@ module _ (u : Tree) (e : Part) (y : e .has ≡ isSome (subAt 7 u)) (l : length (
     pub count-first : n ≡ 0 → After CountIs n 1 u
     count-first z t h = go (leb (length (subsAt 7 t)) 1) refl (sym h ∙ z)
       where
-        go : (b : Bool) → leb (length (subsAt 7 t)) 1 ≡ b → choose b (length (subsAt 7 t)) 2 ≡ 0 → 1 ≡ capped (length (subsAt 7 (join t u)))
+        go : (b : Bool) → leb (length (subsAt 7 t)) 1 ≡ b → cond b (length (subsAt 7 t)) 2 ≡ 0 → 1 ≡ capped (length (subsAt 7 (join t u)))
         go true e f = ap capped (sym (let w : length (subsAt 7 (join t u)) ≡ 1 = omega (arith, join-length t u, one) in w))
         go false e f = absurd (omega arith)
 

@@ -3,16 +3,16 @@
 use mathlib.Core.Path.{_≡_}
 use mathlib.Core.List.{List, []}
 use mathlib.Core.Option.{Option}
-use mathlib.Core.Bool.{Bool, true, false}
+use mathlib.Core.Bool.{Bool, true, false, cond}
 use Prim.Native.Nat.{ℕ, _≤_}
 use lib.ListN.{length}
 use lib.Dec.{leb}
-use Rattle.fields_wire.specs.Reader.{choose}
 use Rattle.fields_schema.specs.Tree.{guard, isSome, Tree, subAt, treeIn, subsAt}
 use Rattle.fields_schema.specs.declared.Kind.the-variants.{Command, Security}
 use Rattle.fields_lookup.specs.Views.{numView, bytesAt, Lies, Reads, Sub, treeOf}
 use Rattle.protocol.specs.Command as c
-use Rattle.protocol.specs.Command.{orElse, securityOf}
+use Rattle.base_definitions.specs.Options.{orElse}
+use Rattle.protocol.specs.Command.{securityOf}
 use Rattle.protocol.specs.Judge.{keyValueIn, rangeIn}
 use Rattle.request_parts.specs.Views.{headerView, keyValueView, KeyValueLies, rangeView, RangeLies, KeyValueIs, RangeIs}
 use Rattle.request_merged.specs.Setups.{SetupIs}
@@ -63,7 +63,7 @@ pub record Secured (t : Tree) (secured twice : Bool) : Type 0 where
 
 -- how many securities: none, one, or more
 abbrev pub capped : ℕ → ℕ
-capped n = choose (leb n 1) n 2
+capped n = cond (leb n 1) n 2
 
 abbrev pub CountIs : Tree → ℕ → Type 0
 CountIs t n = n ≡ capped (length (subsAt 7 t))

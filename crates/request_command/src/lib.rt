@@ -3,9 +3,8 @@ pub mod numbers;
 
 ghost use mathlib.Core.Path.{_≡_};
 ghost use mathlib.Core.List.{List};
-ghost use mathlib.Core.Bool.{true, false};
+ghost use mathlib.Core.Bool.{true, false, cond};
 ghost use Prim.Native.Nat.{ℕ};
-ghost use Rattle.fields_wire.specs.Reader.{choose};
 ghost use Rattle.fields_schema.specs.Tree.{done, mapO, subAt, treeIn};
 ghost use Rattle.fields_lookup.specs.Views.{After, Inside, Merges, Only, Reads, bytesAt, treeOf};
 ghost use Rattle.protocol.specs.Command.{commandOf};
@@ -55,7 +54,7 @@ pub struct Request {
 }
 
 fn either(a: bool, b: bool) -> bool
-    ensures { λ r. ⌜ r ≡ choose a true b ⌝ }
+    ensures { λ r. ⌜ r ≡ cond a true b ⌝ }
 {
     if a {
         return true;
@@ -148,7 +147,8 @@ fn read_bodies(s: &[u8], p: Part) -> Body
 
 // The same, where a is the last one, and the only one unless a singular field of the command was sent twice.
 fn body_in(s: &[u8], p: Part, a: Part, twice: bool) -> Body
-    requires { ⌜ Inside (now s) p × Reads (Kind.Command) (bytesAt (now s) p) × Only (Kind.Body) (now s) a twice (subAt 2 (treeOf (Kind.Command) (bytesAt (now s) p))) ⌝ }
+    requires { ⌜ Inside (now s) p × Reads (Kind.Command) (bytesAt (now s) p)
+        × Only (Kind.Body) (now s) a twice (subAt 2 (treeOf (Kind.Command) (bytesAt (now s) p))) ⌝ }
     ensures { λ r. ⌜ BodyIs (now (s .entry)) (treeIn (subAt 2 (treeOf (Kind.Command) (bytesAt (now (s .entry)) p)))) r ⌝ }
 {
     let has = a.has;
@@ -197,9 +197,11 @@ fn all_securities(s: &[u8], p: Part) -> u64
     n
 }
 
-// Whether the bodies of the command in the part p, which have one or not, have at most one security: asked only where a singular field of the command was sent twice.
+// Whether the bodies of the command in the part p, which have one or not, have at most one security:
+// asked only where a singular field of the command was sent twice.
 fn secured_once(s: &[u8], p: Part, secured: bool, twice: bool) -> bool
-    requires { ⌜ Inside (now s) p × Reads (Kind.Command) (bytesAt (now s) p) × Secured (treeIn (subAt 2 (treeOf (Kind.Command) (bytesAt (now s) p)))) secured twice ⌝ }
+    requires { ⌜ Inside (now s) p × Reads (Kind.Command) (bytesAt (now s) p)
+        × Secured (treeIn (subAt 2 (treeOf (Kind.Command) (bytesAt (now s) p)))) secured twice ⌝ }
     ensures { λ r. ⌜ r ≡ securityOnce (treeOf (Kind.Command) (bytesAt (now (s .entry)) p)) ⌝ }
 {
     if !secured {

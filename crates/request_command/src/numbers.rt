@@ -1,7 +1,8 @@
 // A number of a message where it may be absent.
 ghost use mathlib.Core.Path.{_≡_};
 ghost use Rattle.fields_lookup.specs.Views.{numView};
-ghost use Rattle.protocol.specs.Command.{orElse, flag};
+ghost use Rattle.base_definitions.specs.Options.{orElse};
+ghost use Rattle.protocol.specs.Command.{flag};
 use fields_lookup::parts::Num;
 
 pub fn number_or(n: Num, absent: u64) -> u64

@@ -3,22 +3,23 @@ use Prim.Native.Nat.{ℕ, _≤_, _<_}
 use native.Mathlib.Omega.{arith}
 use mathlib.Core.Path.{_≡_, refl, sym, ap, _∙_, subst}
 use mathlib.Core.List.{List, [], _∷_, _++_, append-assoc, append-nil}
-use mathlib.Core.Bool.{Bool, true, false}
+use mathlib.Core.Bool.{Bool, true, false, cond}
 use lib.ListN.{take, drop}
 use lib.Dec.{eqb}
 use borrow.Author.Tests.{eqb-true}
-use Rattle.fields_wire.specs.Reader.{choose}
 use Rattle.fields_schema.specs.Rules.{namesOf}
 use Rattle.fields_schema.specs.Tree.{among, consIf, intsAt}
-use Rattle.fields_schema.specs.Merged.{ints-join}
+use Rattle.fields_schema.specs.MergedLaws.{ints-join}
 use Rattle.protocol.specs.Command.{typesOf}
 use Rattle.fields_schema.specs.declared.Kind.the-variants as kind
 use Rattle.fields_schema.specs.declared.Names.the-variants.{LogType}
-use Rattle.access_record.specs.Table.{withBit, maskOf}
-use Rattle.access_record.specs.Mask.{mask-more}
+use Rattle.base_definitions.specs.Bits.{withBit}
+use Rattle.access_record.specs.Table.{maskOf}
+use Rattle.access_record.specs.MaskLaws.{mask-more}
 use Rattle.fields_lookup.specs.Views.{Inside, Reads, bytesAt, treeOf, After}
 use Rattle.fields_repeated.specs.Values.{numbersIn, numbersOf, WellFramed, NextNumIs}
-use Rattle.fields_repeated.specs.RepeatedLaws.{AllAmong, repeated-named, repeated-among, reads-framed}
+use Rattle.fields_repeated.specs.Repeated.{AllAmong}
+use Rattle.fields_repeated.specs.RepeatedLaws.{repeated-named, repeated-among, reads-framed}
 use Rattle.fields_lookup.specs.declared.parts.Part.{Part}
 use Rattle.fields_repeated.specs.declared.NextNum.{NextNum}
 use Rattle.fields_repeated.proofs.Seeking.{no-values}
@@ -58,7 +59,7 @@ among-below : (v : ℕ) (ms : List ℕ) → Below ms → among v ms ≡ true →
 among-below v [] h e = let z : _≡_ {A = ℕ} 0 1 = cc in absurd (omega arith)
 among-below v (m ∷ ms) h e = go (eqb v m) refl (among-below v ms (h .1)) e
   where
-    go : (b : Bool) → eqb v m ≡ b → (among v ms ≡ true → v < 8) → choose b true (among v ms) ≡ true → v < 8
+    go : (b : Bool) → eqb v m ≡ b → (among v ms ≡ true → v < 8) → cond b true (among v ms) ≡ true → v < 8
     go true q ih f = omega (arith, h .0, eqb-true v m q)
     go false q ih f = ih f
 

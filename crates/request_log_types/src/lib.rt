@@ -12,6 +12,9 @@ use fields_lookup::parts::Part;
 use fields_repeated::next_num;
 use fields_repeated::next_part;
 use fields_schema::Kind;
+use protocol::log_type::CONFIGURATION;
+use protocol::log_type::MESSAGES;
+use protocol::log_type::STATISTICS;
 
 // Is this type in the set?
 pub fn asks(mask: u16, kind: u8) -> bool
@@ -82,18 +85,18 @@ pub fn log_types(s: &[u8]) -> u16
     mask
 }
 
-// Is there a type, and none of 3, 4 and 5?
+// Is there a type, and none that is not built?
 pub fn types_good(mask: u16) -> bool
     ensures { λ r. ⌜ ((types : List ℕ) → TypesAre types mask → r ≡ typesGood types) ⌝ }
 {
     if mask == 0 {
         return false;
     }
-    if asks(mask, 3) {
+    if asks(mask, CONFIGURATION) {
         return false;
     }
-    if asks(mask, 4) {
+    if asks(mask, STATISTICS) {
         return false;
     }
-    !asks(mask, 5)
+    !asks(mask, MESSAGES)
 }

@@ -44,7 +44,8 @@ fn read_headers(s: &[u8], p: Part) -> Header
 
 // The same, where a is the last one, and the only one unless a singular field of the command was sent twice.
 pub fn header_in(s: &[u8], p: Part, a: Part, twice: bool) -> Header
-    requires { ⌜ Inside (now s) p × Reads (Kind.Command) (bytesAt (now s) p) × Only (Kind.Header) (now s) a twice (subAt 1 (treeOf (Kind.Command) (bytesAt (now s) p))) ⌝ }
+    requires { ⌜ Inside (now s) p × Reads (Kind.Command) (bytesAt (now s) p)
+        × Only (Kind.Header) (now s) a twice (subAt 1 (treeOf (Kind.Command) (bytesAt (now s) p))) ⌝ }
     ensures { λ r. ⌜ HeaderIs (treeIn (subAt 1 (treeOf (Kind.Command) (bytesAt (now (s .entry)) p)))) r ⌝ }
 {
     let has = a.has;
@@ -78,7 +79,8 @@ fn read_key_values(s: &[u8], p: Part) -> KeyValue
 
 // The same, where a is the last one, and the only one unless a singular field of the body was sent twice.
 pub fn entry_in(s: &[u8], p: Part, a: Part, twice: bool) -> KeyValue
-    requires { ⌜ Inside (now s) p × Reads (Kind.Body) (bytesAt (now s) p) × Only (Kind.KeyValue) (now s) a twice (subAt 1 (treeOf (Kind.Body) (bytesAt (now s) p))) ⌝ }
+    requires { ⌜ Inside (now s) p × Reads (Kind.Body) (bytesAt (now s) p)
+        × Only (Kind.KeyValue) (now s) a twice (subAt 1 (treeOf (Kind.Body) (bytesAt (now s) p))) ⌝ }
     ensures { λ r. ⌜ KeyValueIs (now (s .entry)) (treeIn (subAt 1 (treeOf (Kind.Body) (bytesAt (now (s .entry)) p)))) r ⌝ }
 {
     let has = a.has;
@@ -112,7 +114,8 @@ fn read_ranges(s: &[u8], p: Part) -> Range
 
 // The same, where a is the last one, and the only one unless a singular field of the body was sent twice.
 pub fn range_in(s: &[u8], p: Part, a: Part, twice: bool) -> Range
-    requires { ⌜ Inside (now s) p × Reads (Kind.Body) (bytesAt (now s) p) × Only (Kind.Range) (now s) a twice (subAt 2 (treeOf (Kind.Body) (bytesAt (now s) p))) ⌝ }
+    requires { ⌜ Inside (now s) p × Reads (Kind.Body) (bytesAt (now s) p)
+        × Only (Kind.Range) (now s) a twice (subAt 2 (treeOf (Kind.Body) (bytesAt (now s) p))) ⌝ }
     ensures { λ r. ⌜ RangeIs (now (s .entry)) (treeIn (subAt 2 (treeOf (Kind.Body) (bytesAt (now (s .entry)) p)))) r ⌝ }
 {
     let has = a.has;
@@ -163,7 +166,8 @@ fn read_setups(s: &[u8], p: Part) -> Num
 
 // The same, where a is the last one, and the only one unless a singular field of the body was sent twice.
 pub fn setup_in(s: &[u8], p: Part, a: Part, twice: bool) -> Num
-    requires { ⌜ Inside (now s) p × Reads (Kind.Body) (bytesAt (now s) p) × Only (Kind.Setup) (now s) a twice (subAt 3 (treeOf (Kind.Body) (bytesAt (now s) p))) ⌝ }
+    requires { ⌜ Inside (now s) p × Reads (Kind.Body) (bytesAt (now s) p)
+        × Only (Kind.Setup) (now s) a twice (subAt 3 (treeOf (Kind.Body) (bytesAt (now s) p))) ⌝ }
     ensures { λ r. ⌜ SetupIs (treeIn (subAt 3 (treeOf (Kind.Body) (bytesAt (now (s .entry)) p)))) r ⌝ }
 {
     let has = a.has;

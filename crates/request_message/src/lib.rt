@@ -2,8 +2,7 @@
 ghost use mathlib.Core.Path.{_≡_};
 ghost use mathlib.Core.List.{List};
 ghost use Prim.Native.Nat.{ℕ};
-ghost use mathlib.Core.Bool.{false};
-ghost use Rattle.fields_wire.specs.Reader.{choose};
+ghost use mathlib.Core.Bool.{false, cond};
 ghost use Rattle.fields_schema.specs.Tree.{done, subAt, treeIn};
 ghost use Rattle.fields_lookup.specs.Views.{Inside, Merges, Only, Reads, bytesAt, numView, treeOf};
 ghost use Rattle.protocol.specs.Reading.{isOne, readMessage};
@@ -19,6 +18,7 @@ use fields_lookup::parts::part_of;
 use fields_lookup::parts::sent_twice;
 use fields_repeated::next_part;
 use fields_schema::Kind;
+use protocol::auth_type::HMACAUTH;
 
 pub struct Auth {
     pub identity: Num,
@@ -38,13 +38,13 @@ fn is_one(n: Num) -> bool
 {
     let has = n.has;
     if has {
-        return n.value == 1;
+        return n.value == HMACAUTH;
     }
     false
 }
 
 fn all_of(a: bool, b: bool, c: bool, d: bool) -> bool
-    ensures { λ r. ⌜ r ≡ choose a (choose b (choose c d false) false) false ⌝ }
+    ensures { λ r. ⌜ r ≡ cond a (cond b (cond c d false) false) false ⌝ }
 {
     if a {
         if b {
@@ -113,7 +113,8 @@ fn read_auths(s: &[u8], p: Part) -> Auth
 
 // The same, where a is the last one, and the only one unless a singular field of the message was sent twice.
 fn auth_in(s: &[u8], p: Part, a: Part, twice: bool) -> Auth
-    requires { ⌜ Inside (now s) p × Reads (Kind.Message) (bytesAt (now s) p) × Only (Kind.HmacAuth) (now s) a twice (subAt 5 (treeOf (Kind.Message) (bytesAt (now s) p))) ⌝ }
+    requires { ⌜ Inside (now s) p × Reads (Kind.Message) (bytesAt (now s) p)
+        × Only (Kind.HmacAuth) (now s) a twice (subAt 5 (treeOf (Kind.Message) (bytesAt (now s) p))) ⌝ }
     ensures { λ r. ⌜ AuthIs (now (s .entry)) (treeIn (subAt 5 (treeOf (Kind.Message) (bytesAt (now (s .entry)) p)))) r ⌝ }
 {
     let has = a.has;

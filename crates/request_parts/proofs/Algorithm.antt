@@ -4,10 +4,9 @@ use native.Mathlib.Omega.{arith}
 use mathlib.Core.Path.{_≡_, refl, sym, ap, subst}
 use mathlib.Core.List.{List, [], _∷_}
 use mathlib.Core.Option.{Option, none, some}
-use mathlib.Core.Bool.{Bool, true, false}
+use mathlib.Core.Bool.{Bool, true, false, cond}
 use lib.Dec.{eqb}
 use borrow.Author.Tests.{eqb-true}
-use Rattle.fields_wire.specs.Reader.{choose}
 use Rattle.fields_wire.specs.Wire.{Value, vint, v64, vlen, v32}
 use Rattle.fields_schema.specs.Rules.{namesOf}
 use Rattle.fields_schema.specs.Tree.{guard, among, Content, cInt, decode, intAt}
@@ -16,9 +15,10 @@ use Rattle.fields_schema.specs.declared.Names.the-variants.{Algorithm}
 use Rattle.fields_schema.specs.declared.Form.the-variants.{Named}
 use Rattle.fields_lookup.specs.Views.{Reads, treeOf}
 use Rattle.fields_schema.specs.OptionLaws.{nothing-some}
-use Rattle.fields_lookup.specs.LevelLaws.{Is, Decodes, all-more, level-all, level-decodes, level-of, intC, int-look}
+use Rattle.fields_lookup.specs.Level.{Is, Decodes, intC}
+use Rattle.fields_lookup.specs.LevelLaws.{all-more, level-all, level-decodes, level-of, int-look}
 use Rattle.fields_decode.specs.Slots.{findLast}
-use Rattle.protocol.specs.Command.{orElse}
+use Rattle.base_definitions.specs.Options.{orElse}
 
 abbrev Most : ℕ → List ℕ → Type 0
 Most n [] = Unit {0}
@@ -28,7 +28,7 @@ among-most : (n v : ℕ) (ms : List ℕ) → Most n ms → among v ms ≡ true �
 among-most n v [] h e = let z : _≡_ {A = ℕ} 0 1 = cc in absurd (omega arith)
 among-most n v (m ∷ ms) h e = go (eqb v m) refl (λ f. among-most n v ms (h .1) f) e
   where
-    go : (b : Bool) → eqb v m ≡ b → (among v ms ≡ true → v ≤ n) → choose b true (among v ms) ≡ true → v ≤ n
+    go : (b : Bool) → eqb v m ≡ b → (among v ms ≡ true → v ≤ n) → cond b true (among v ms) ≡ true → v ≤ n
     go true q ih f = omega (arith, h .0, eqb-true v m q)
     go false q ih f = ih f
 

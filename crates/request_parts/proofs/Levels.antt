@@ -1,16 +1,16 @@
 -- One law for each level: what its fields say, and two of them merged.
+use mathlib.Core.Bool.{cond}
 use Prim.Native.Nat.{ℕ, _≤_}
 use mathlib.Core.Path.{_≡_, refl, sym, subst}
 use mathlib.Core.List.{List}
 use mathlib.Core.Option.{Option}
-use Rattle.fields_wire.specs.Reader.{choose}
 use Rattle.fields_schema.specs.declared.Kind.the-variants as k
 use Rattle.fields_decode.specs.declared.slots.Slots.{Slots}
 use Rattle.fields_lookup.specs.Views.{treeOf, bytesAt, numView, Level, Lies, Merges, NumIs, PartIs}
 use Rattle.fields_lookup.specs.LaterLaws.{num-later, part-later, later-is}
 use Rattle.fields_lookup.specs.declared.parts.Num.{Num}
 use Rattle.fields_lookup.specs.declared.parts.Part.{Part}
-use Rattle.protocol.specs.Command.{orElse}
+use Rattle.base_definitions.specs.Options.{orElse}
 use Rattle.request_parts.proofs.Algorithm.{algorithm-most}
 use Rattle.request_parts.specs.Views.{HeaderIs, KeyValueIs, RangeIs}
 use Rattle.request_parts.specs.declared.Header.{Header}
@@ -62,10 +62,10 @@ module _ (s : List ℕ) (p : Part) (t : Slots) where
 
 -- two of them, one after the other: of each field the later one
 abbrev NumLater : Num → Num → Num → Type 0
-NumLater b a r = r ≡ choose (a .has) a b
+NumLater b a r = r ≡ cond (a .has) a b
 
 abbrev PartLater : Part → Part → Part → Type 0
-PartLater b a r = r ≡ choose (a .has) a b
+PartLater b a r = r ≡ cond (a .has) a b
 
 pub headers-law : (b a : Header) (r1 r3 r4 r7 : Num)
     → NumLater (b .cluster) (a .cluster) r1 → NumLater (b .connection) (a .connection) r3 → NumLater (b .sequence) (a .sequence) r4 → NumLater (b .kind) (a .kind) r7

@@ -5,7 +5,8 @@ use mathlib.Core.List.{List, []}
 use Prim.Native.Nat.{ℕ, _≤_}
 use Rattle.fields_lookup.specs.Views.{numView, partView, Lies}
 use Rattle.protocol.specs.Command as c
-use Rattle.protocol.specs.Command.{orElse, flag}
+use Rattle.base_definitions.specs.Options.{orElse}
+use Rattle.protocol.specs.Command.{flag}
 use Rattle.fields_schema.specs.Tree.{Tree, intAt, rawAt}
 use Rattle.request_parts.specs.declared.Header.{Header}
 use Rattle.request_parts.specs.declared.KeyValue.{KeyValue}

@@ -2,7 +2,7 @@
 use Prim.Native.Nat.{ℕ, _≤_, _<_}
 use mathlib.Core.Path.{_≡_, refl, sym, ap, ap₂, _∙_, subst}
 use mathlib.Core.List.{List, [], _∷_}
-use mathlib.Core.Bool.{Bool, true, false, not}
+use mathlib.Core.Bool.{Bool, true, false, not, _&&_}
 use lib.ListN.{length}
 use lib.Dec.{leb}
 use borrow.Author.Tests.{le-leb, lt-leb}
@@ -10,18 +10,20 @@ use Rattle.fields_schema.specs.Tree.{level, rawAt}
 use Rattle.fields_decode.specs.Slots.{Tells}
 use Rattle.fields_schema.specs.declared.Kind.the-variants as kind
 use Rattle.fields_decode.specs.declared.slots.Slots.{Slots}
-use Rattle.access_record.specs.Table.{both, all, within, isEmpty, named, maskOf, maskGood, scopeGood}
-use Rattle.access_record.specs.Laws.{both-snd}
-use Rattle.access_record.specs.Mask.{mask-good}
-use Rattle.fields_lookup.specs.Views.{Inside, bytesAt, treeOf, orEmpty, numView, NumIs, PartIs}
+use Rattle.base_definitions.specs.Options.{orElse}
+use Rattle.base_definitions.specs.Lists.{all, within, isEmpty}
+use Rattle.access_record.specs.Table.{named, maskOf, maskGood, scopeGood}
+use Rattle.access_record.specs.TableLaws.{both-snd}
+use Rattle.access_record.specs.MaskLaws.{mask-good}
+use Rattle.fields_lookup.specs.Views.{Inside, bytesAt, treeOf, numView, NumIs, PartIs}
 use Rattle.fields_lookup.specs.declared.parts.Num.{Num}
 use Rattle.fields_lookup.specs.declared.parts.Part.{Part}
 use Rattle.fields_lookup.proofs.Slotted.{length-at}
-use Rattle.protocol.specs.Command.{Scope, orElse, flag}
+use Rattle.protocol.specs.Command.{Scope, flag}
 use Rattle.protocol.specs.Judge.{permissionsGood}
 use Rattle.request_scope.specs.Stands.{StandsScope, scopeIn}
 use Rattle.request_scope.specs.Scope.{PermissionsAre, scopeTaken, refusedScope, ScopeIs}
-use Rattle.request_scope.specs.Laws.{never, both-false, level-at, or-empty}
+use Rattle.request_scope.specs.ScopeLaws.{never, both-false, level-at, or-empty}
 use Rattle.request_scope.specs.declared.Permissions.{Permissions}
 use Rattle.request_scope.specs.declared.ReadScope.{ReadScope}
 
@@ -41,13 +43,13 @@ facts-of s p t y h value v a offset x e b tls z f held g =
     record {
       place = v .lies .inside;
       offset-is = e ∙ ap (orElse 0) (x kind.Scope (bytesAt s p) l refl);
-      value-is = v .lies .empty ∙ ap orEmpty (v .bytes kind.Scope l refl) ∙ or-empty (rawAt 2 (treeOf kind.Scope (bytesAt s p)));
+      value-is = v .lies .empty ∙ ap (orElse []) (v .bytes kind.Scope l refl) ∙ or-empty (rawAt 2 (treeOf kind.Scope (bytesAt s p)));
       tls-is = f ∙ ap flag (z kind.Scope (bytesAt s p) l refl);
       held-is = g;
     }
 
 -- ---- its rules
-taken-test : (c : Scope) → scopeTaken c ≡ both (permissionsGood c) (both (leb (c .offset) 64) (both (leb (length (c .value)) 64) (maskGood (maskOf (c .permissions)))))
+taken-test : (c : Scope) → scopeTaken c ≡ (permissionsGood c && (leb (c .offset) 64 && (leb (length (c .value)) 64 && maskGood (maskOf (c .permissions)))))
 unfolding scopeTaken scopeGood
 taken-test c = refl
 
@@ -55,7 +57,7 @@ good-mask : (c : Scope) → permissionsGood c ≡ true → maskGood (maskOf (c .
 unfolding permissionsGood
 good-mask c h = mask-good (c .permissions) ∙ go (c .permissions) h
   where
-    go : (ps : List ℕ) → both (within 1 9 (length ps)) (all named ps) ≡ true → both (not (isEmpty ps)) (all named ps) ≡ true
+    go : (ps : List ℕ) → (within 1 9 (length ps) && all named ps) ≡ true → (not (isEmpty ps) && all named ps) ≡ true
     go [] h = h
     go (p ∷ ps) h = both-snd (within 1 9 (length (p ∷ ps))) (all named (p ∷ ps)) h
 
@@ -66,13 +68,13 @@ module _ {s : List ℕ} {p value : Part} {offset : ℕ} {tls : Bool} {held : Per
   pub scope-unnamed : held .ok ≡ false → (r : ReadScope) → r ≡ refusedScope value → ScopeIs s (scopeIn s p) r
   scope-unnamed n r e =
       let c = scopeIn s p in
-      refused r e (taken-test c ∙ ap (λ (b : Bool). both b (both (leb (c .offset) 64) (both (leb (length (c .value)) 64) (maskGood (maskOf (c .permissions)))))) (sym (f .held-is .ok) ∙ n))
+      refused r e (taken-test c ∙ ap (λ (b : Bool). (b && (leb (c .offset) 64 && (leb (length (c .value)) 64 && maskGood (maskOf (c .permissions)))))) (sym (f .held-is .ok) ∙ n))
 
   pub scope-far : leb offset 64 ≡ false → (r : ReadScope) → r ≡ refusedScope value → ScopeIs s (scopeIn s p) r
   scope-far n r e =
       let c = scopeIn s p in
       let x : leb (c .offset) 64 ≡ false = ap (λ (k : ℕ). leb k 64) (sym (f .offset-is)) ∙ n in
-      refused r e (taken-test c ∙ ap (λ (b : Bool). both (permissionsGood c) (both b (both (leb (length (c .value)) 64) (maskGood (maskOf (c .permissions)))))) x ∙ both-false (permissionsGood c))
+      refused r e (taken-test c ∙ ap (λ (b : Bool). (permissionsGood c && (b && (leb (length (c .value)) 64 && maskGood (maskOf (c .permissions)))))) x ∙ both-false (permissionsGood c))
 
   value-length : length (scopeIn s p .value) ≡ value .len
   value-length = ap length (sym (f .value-is)) ∙ length-at s value (f .place)
@@ -81,7 +83,7 @@ module _ {s : List ℕ} {p value : Part} {offset : ℕ} {tls : Bool} {held : Per
   scope-long n r e =
       let c = scopeIn s p in
       let x : leb (length (c .value)) 64 ≡ false = ap (λ (k : ℕ). leb k 64) value-length ∙ lt-leb (value .len) 64 n in
-      refused r e (taken-test c ∙ ap (λ (b : Bool). both (permissionsGood c) (both (leb (c .offset) 64) (both b (maskGood (maskOf (c .permissions)))))) x ∙ ap (both (permissionsGood c)) (both-false (leb (c .offset) 64)) ∙ both-false (permissionsGood c))
+      refused r e (taken-test c ∙ ap (λ (b : Bool). (permissionsGood c && (leb (c .offset) 64 && (b && maskGood (maskOf (c .permissions)))))) x ∙ ap (_&&_ (permissionsGood c)) (both-false (leb (c .offset) 64)) ∙ both-false (permissionsGood c))
 
   pub scope-read : held .ok ≡ true → leb offset 64 ≡ true → value .len ≤ 64 → ScopeIs s (scopeIn s p) (record { ok = true; offset = offset; mask = held .mask; tls = tls; value = value })
   scope-read h o v =
@@ -89,14 +91,14 @@ module _ {s : List ℕ} {p value : Part} {offset : ℕ} {tls : Bool} {held : Per
       let g : permissionsGood c ≡ true = sym (f .held-is .ok) ∙ h in
       let x : leb (c .offset) 64 ≡ true = ap (λ (k : ℕ). leb k 64) (sym (f .offset-is)) ∙ o in
       let y : leb (length (c .value)) 64 ≡ true = ap (λ (k : ℕ). leb k 64) value-length ∙ le-leb (value .len) 64 v in
-      let rest : both (leb (c .offset) 64) (both (leb (length (c .value)) 64) (maskGood (maskOf (c .permissions)))) ≡ true =
-      ap₂ (λ (a b : Bool). both a (both b (maskGood (maskOf (c .permissions))))) x y ∙ good-mask c g in
+      let rest : (leb (c .offset) 64 && (leb (length (c .value)) 64 && maskGood (maskOf (c .permissions)))) ≡ true =
+      ap₂ (λ (a b : Bool). (a && (b && maskGood (maskOf (c .permissions))))) x y ∙ good-mask c g in
       let m = f .held-is .mask h in
       let e1 = f .offset-is in
       let e2 = f .value-is in
       let e4 = f .tls-is in
       record {
-        ok = sym (taken-test c ∙ ap₂ (λ (a b : Bool). both a b) g rest);
+        ok = sym (taken-test c ∙ ap₂ (λ (a b : Bool). (a && b)) g rest);
         inside = f .place;
         short = λ w. v;
         says = λ w. λ i. record { offset = e1 i; value = e2 i; permissions = m i; tlsRequired = e4 i };

@@ -1,5 +1,7 @@
 pub mod Offset
+pub mod OffsetLaws
 pub mod Stands
 pub mod Scope
-pub mod Laws
+pub mod ScopeLaws
 pub mod Rests
+pub mod RestsLaws

@@ -2,9 +2,9 @@
 use Prim.Native.Nat.{ℕ, _≤_}
 use mathlib.Core.Path.{_≡_}
 use mathlib.Core.List.{List}
-use mathlib.Core.Bool.{Bool, true, false}
+use mathlib.Core.Bool.{Bool, true, false, _&&_}
 use Rattle.access_record.specs.Table as access
-use Rattle.access_record.specs.Table.{both, maskOf, scopeGood}
+use Rattle.access_record.specs.Table.{maskOf, scopeGood}
 use Rattle.fields_lookup.specs.Views.{Inside, bytesAt}
 use Rattle.fields_lookup.specs.declared.parts.Part.{Part}
 use Rattle.protocol.specs.Command.{Scope}
@@ -22,7 +22,7 @@ noPermissions = record { ok = false; mask = 0 }
 
 -- the ACL rules of one scope: "each with 1 to 9 permissions among 0-5, 7, 8, 9, offset 0 to 64, value at most 64"
 unfoldable pub scopeTaken : Scope → Bool
-scopeTaken c = both (permissionsGood c) (scopeGood (wantedScope c))
+scopeTaken c = permissionsGood c && scopeGood (wantedScope c)
 
 -- a scope as the table has it
 abbrev pub scopeView : List ℕ → ReadScope → access.Scope

@@ -3,18 +3,20 @@ use Prim.Native.Nat.{ℕ, _+_, _≤_}
 use native.Mathlib.Omega.{arith}
 use mathlib.Core.Path.{_≡_, refl, sym, ap, ap₂, _∙_}
 use mathlib.Core.List.{List, [], _∷_}
-use mathlib.Core.Bool.{Bool, true, false}
+use mathlib.Core.Bool.{Bool, true, false, _&&_}
 use lib.ListN.{length}
 use Rattle.access_record.specs.Table as access
-use Rattle.access_record.specs.Table.{both, all, within, findFrom, isNobody, aclGood, aclsGood, tableGood}
+use Rattle.base_definitions.specs.Lists.{all, within, mapL}
+use Rattle.access_record.specs.Table.{findFrom, isNobody, aclGood, aclsGood, tableGood}
 use Rattle.access_record.specs.Record.{tableOf, tableBytes}
-use Rattle.access_record.specs.Laws.{both-fst, both-snd, within-high}
-use Rattle.access_record.specs.Readback.{RoomyAcls, RoomyTable, roomy-acl, roomy-back}
+use Rattle.access_record.specs.TableLaws.{both-fst, both-snd, within-high}
+use Rattle.access_record.specs.Roomy.{RoomyAcls, RoomyTable}
+use Rattle.access_record.specs.ReadbackLaws.{roomy-acl, roomy-back}
 use Rattle.access_table_write.specs.Write.{emptyTable, putAcls}
-use Rattle.access_table_write.specs.Written.{table-written}
-use Rattle.protocol.specs.Command.{Acl, mapL}
+use Rattle.access_table_write.specs.WrittenLaws.{table-written}
+use Rattle.protocol.specs.Command.{Acl}
 use Rattle.protocol.specs.Judge.{aclRead, wantedAcl, wanted, securityGood}
-use Rattle.request_scope.specs.Laws.{never}
+use Rattle.request_scope.specs.ScopeLaws.{never}
 use Rattle.request_acl.specs.Taken.{aclTaken, putOne, Makes}
 use Rattle.request_security.specs.Security.{aclsTaken}
 use Rattle.request_acl.proofs.Scopes.{makes-no}
@@ -33,16 +35,16 @@ unfolding putAcls mapL putOne
 all-cons l n a acls = refl
 
 -- ---- the rules of the table
-acls-all : (acls : List Acl) → all aclTaken acls ≡ both (all aclRead acls) (all aclGood (mapL wantedAcl acls))
+acls-all : (acls : List Acl) → all aclTaken acls ≡ (all aclRead acls && all aclGood (mapL wantedAcl acls))
 unfolding aclTaken
-acls-all acls = all-both aclRead (λ a. aclGood (wantedAcl a)) acls ∙ ap (both (all aclRead acls)) (sym (all-map aclGood wantedAcl acls))
+acls-all acls = all-both aclRead (λ a. aclGood (wantedAcl a)) acls ∙ ap (_&&_ (all aclRead acls)) (sym (all-map aclGood wantedAcl acls))
 
 good-each : (xs : List access.Acl) → aclsGood xs ≡ true → all aclGood xs ≡ true
 unfolding aclsGood all
 good-each [] h = refl
 good-each (x ∷ xs) h =
-    let r = both-snd (aclGood x) (both (isNobody (findFrom 0 (x .identity) xs)) (aclsGood xs)) h in
-    ap₂ both (both-fst (aclGood x) (both (isNobody (findFrom 0 (x .identity) xs)) (aclsGood xs)) h)
+    let r = both-snd (aclGood x) (isNobody (findFrom 0 (x .identity) xs) && aclsGood xs) h in
+    ap₂ _&&_ (both-fst (aclGood x) (isNobody (findFrom 0 (x .identity) xs) && aclsGood xs) h)
     (good-each xs (both-snd (isNobody (findFrom 0 (x .identity) xs)) (aclsGood xs) r))
 
 roomy-each : (xs : List access.Acl) → all aclGood xs ≡ true → RoomyAcls xs
@@ -54,9 +56,9 @@ good-taken : (acls : List Acl) → securityGood acls ≡ true → aclsTaken acls
 unfolding securityGood tableGood aclsTaken
 good-taken acls h =
     let xs = mapL wantedAcl acls in
-    let t = both-snd (all aclRead acls) (both (within 1 8 (length xs)) (aclsGood xs)) h in
-    ap₂ both (ap (within 1 8) (sym (length-map wantedAcl acls)) ∙ both-fst (within 1 8 (length xs)) (aclsGood xs) t)
-    (acls-all acls ∙ ap₂ both (both-fst (all aclRead acls) (both (within 1 8 (length xs)) (aclsGood xs)) h) (good-each xs (both-snd (within 1 8 (length xs)) (aclsGood xs) t)))
+    let t = both-snd (all aclRead acls) (within 1 8 (length xs) && aclsGood xs) h in
+    ap₂ _&&_ (ap (within 1 8) (sym (length-map wantedAcl acls)) ∙ both-fst (within 1 8 (length xs)) (aclsGood xs) t)
+    (acls-all acls ∙ ap₂ _&&_ (both-fst (all aclRead acls) (within 1 8 (length xs) && aclsGood xs) h) (good-each xs (both-snd (within 1 8 (length xs)) (aclsGood xs) t)))
 
 pub table-refused : (acls : List Acl) → aclsTaken acls ≡ false → (out bytes : List ℕ) → Makes (securityGood acls) false out bytes
 table-refused acls e out bytes = makes-no (securityGood acls) out bytes (go (securityGood acls) refl)
@@ -80,7 +82,7 @@ parted acls h =
 
 judged : (acls : List Acl) → all aclRead acls ≡ true → securityGood acls ≡ tableGood (wanted 0 acls)
 unfolding securityGood
-judged acls h = ap (λ (b : Bool). both b (tableGood (wanted 0 acls))) h
+judged acls h = ap (λ (b : Bool). (b && tableGood (wanted 0 acls))) h
 
 pub table-made : (version : ℕ) (acls : List Acl) → aclsTaken acls ≡ true → (before out : List ℕ) → before ≡ tableBytes (emptyTable version) → out ≡ putAcls before 0 (mapL wantedAcl acls)
     → (r : Bool) → r ≡ tableGood (tableOf out) → Makes (securityGood acls) r out (tableBytes (wanted version acls))

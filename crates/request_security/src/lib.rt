@@ -1,5 +1,5 @@
 // The Security part of a command: judged by the ACL rules and written as a device record.
-ghost use Rattle.protocol.specs.Command.{mapL};
+ghost use Rattle.base_definitions.specs.Lists.{mapL};
 ghost use Rattle.protocol.specs.Judge.{wantedAcl, wanted, securityGood};
 ghost use Rattle.access_record.specs.Record.{tableBytes};
 ghost use Rattle.access_table_write.specs.Write.{putAcls};
@@ -16,7 +16,8 @@ use request_acl::add_acl_from;
 // The ACLs of the Security in the part p, judged and written from ACL 0 on.
 fn add_acls(s: &[u8], p: Part, device: &mut Record) -> bool
     requires { ⌜ StandsSecurity (now s) p ⌝ }
-    ensures { λ r. ⌜ Makes (aclsTaken (aclsIn (now (s .entry)) p)) r (now (device .exit)) (putAcls (now (device .entry)) 0 (mapL wantedAcl (aclsIn (now (s .entry)) p))) ⌝ }
+    ensures { λ r. ⌜ Makes (aclsTaken (aclsIn (now (s .entry)) p)) r (now (device .exit))
+        (putAcls (now (device .entry)) 0 (mapL wantedAcl (aclsIn (now (s .entry)) p))) ⌝ }
 {
     let mut left = p;
     let mut n: usize = 0;

@@ -1,5 +1,5 @@
 -- The definitions that the contracts of `signature_hmac` cite, and what follows of them.
 pub mod Hmac
 pub mod HmacLaws
-pub mod Steps
-pub mod StepsLaws
+pub mod Agree
+pub mod AgreeLaws

@@ -2,7 +2,8 @@
 ghost use mathlib.Core.Path.{_≡_};
 ghost use Prim.Native.Nat.{_≤_};
 ghost use lib.ListN.{length};
-ghost use Rattle.signature_hmac.specs.Hmac.{masked, keyedWords, hmacAnswer, macAnswer, sameBytes, verified};
+ghost use Rattle.base_definitions.specs.Lists.{sameBytes};
+ghost use Rattle.signature_hmac.specs.Hmac.{masked, keyedWords, hmacAnswer, macAnswer, verified};
 use signature_sha1::bytes;
 use signature_sha1::hash;
 use signature_sha1::hash_after;

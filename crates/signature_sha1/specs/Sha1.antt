@@ -1,11 +1,12 @@
 -- SHA-1 as FIPS 180-4 defines it, on words that are numbers below 2^32 and bytes that are numbers below 2^8.
 -- Assumes nothing.
+use mathlib.Core.Bool.{cond}
 use mathlib.Core.List.{List, [], _∷_, _++_}
 use Prim.Native.Nat.{ℕ, zero, suc, _+_, _-_, _*_, _/_, _%_, _^_}
 use lib.Dec.{ltb}
 use lib.ListN.{length, take, drop, replicate}
 use Rattle.signature_sha1_compression.specs.declared.State.{State}
-use Rattle.signature_sha1_compression.specs.Compression.{pick, compress}
+use Rattle.signature_sha1_compression.specs.Compression.{compress}
 use Rattle.signature_sha1.specs.declared.Digest.{Digest}
 use Rattle.signature_sha1.specs.declared.Digest.the-variants.{Made, TooLong}
 
@@ -60,7 +61,7 @@ pub record Answer : Type 0 where
 
 -- a text of 2^60 bytes or more has no digest here (house; the standard ends at 2^61)
 unfoldable pub sha1Answer : List ℕ → Answer
-sha1Answer text = pick (ltb (length text) (2 ^ 60)) (record { number = 0; digest = sha1 text }) (record { number = 1; digest = [] })
+sha1Answer text = cond (ltb (length text) (2 ^ 60)) (record { number = 0; digest = sha1 text }) (record { number = 1; digest = [] })
 
 -- the number and the bytes of each case of the enum
 abbrev pub digestAnswer : Digest → Answer

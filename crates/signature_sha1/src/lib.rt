@@ -4,7 +4,7 @@ ghost use mathlib.Core.List.{_++_};
 ghost use Prim.Native.Nat.{_+_, _<_, _^_, _%_};
 ghost use lib.ListN.{length};
 ghost use Rattle.signature_sha1.specs.Sha1.{pad, overall, finish as finished, H0, bytes as bytesOf, sha1Words, sha1Answer, digestAnswer};
-ghost use Rattle.signature_sha1.specs.Steps.{markedBlock, sizedBlock};
+ghost use Rattle.signature_sha1.specs.PaddedBlocks.{markedBlock, sizedBlock};
 use signature_sha1_compression::State;
 use signature_sha1_compression::compress;
 

@@ -1,16 +1,12 @@
 -- The compression function of SHA-1 as FIPS 180-4 defines it, on words that are numbers below 2^32 and bytes that are numbers below 2^8.
 -- Assumes nothing.
 use mathlib.Core.List.{List, [], _∷_, _++_}
-use mathlib.Core.Bool.{Bool, true, false}
+use mathlib.Core.Bool.{cond}
 use Prim.Native.Nat.{ℕ, zero, suc, _+_, _-_, _*_, _/_, _%_, _^_}
 use lib.Bits.{bitAnd, bitOr, bitXor}
 use lib.Dec.{ltb}
 use lib.ListN.{getD}
 use Rattle.signature_sha1_compression.specs.declared.State.{State}
-
-abbrev pub pick : {A : Type 0} → Bool → A → A → A
-pick true a b = a
-pick false a b = b
 
 -- §2.2.2, §3.2: x + y modulo 2^32; the complement; ROTL^n
 unfoldable pub add : ℕ → ℕ → ℕ
@@ -33,11 +29,11 @@ abbrev pub Maj : ℕ → ℕ → ℕ → ℕ
 Maj x y z = bitXor (bitXor (bitAnd x y) (bitAnd x z)) (bitAnd y z)
 
 unfoldable pub f : ℕ → ℕ → ℕ → ℕ → ℕ
-f t x y z = pick (ltb t 20) (Ch x y z) (pick (ltb t 40) (Parity x y z) (pick (ltb t 60) (Maj x y z) (Parity x y z)))
+f t x y z = cond (ltb t 20) (Ch x y z) (cond (ltb t 40) (Parity x y z) (cond (ltb t 60) (Maj x y z) (Parity x y z)))
 
 -- §4.2.1
 unfoldable pub K : ℕ → ℕ
-K t = pick (ltb t 20) 0x5a827999 (pick (ltb t 40) 0x6ed9eba1 (pick (ltb t 60) 0x8f1bbcdc 0xca62c1d6))
+K t = cond (ltb t 20) 0x5a827999 (cond (ltb t 40) 0x6ed9eba1 (cond (ltb t 60) 0x8f1bbcdc 0xca62c1d6))
 
 -- §6.1.2, step 3: one round, with the value m of its function, its constant k and its schedule word w
 unfoldable pub turned : ℕ → ℕ → ℕ → State → State
@@ -54,7 +50,7 @@ word bs at = getD bs at 0 * 2 ^ 24 + getD bs (at + 1) 0 * 2 ^ 16 + getD bs (at +
 -- §6.1.2, step 1: schedule word t of the block m, from the list ws of the words before it
 unfoldable pub nextW : List ℕ → List ℕ → ℕ → ℕ
 nextW m ws t =
-    pick (ltb t 16) (word m (4 * t))
+    cond (ltb t 16) (word m (4 * t))
     (ROTL 1 (bitXor (bitXor (bitXor (getD ws (t - 3) 0) (getD ws (t - 8) 0)) (getD ws (t - 14) 0)) (getD ws (t - 16) 0)))
 
 unfoldable pub grow : List ℕ → ℕ → List ℕ → List ℕ

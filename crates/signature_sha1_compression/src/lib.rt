@@ -2,10 +2,13 @@
 ghost use mathlib.Core.Path.{_≡_};
 ghost use Prim.Native.Nat.{ℕ, _+_, _<_, _≤_};
 ghost use lib.ListN.{length, getD};
-ghost use Rattle.signature_sha1_compression.specs.Compression.{ROTL, Ch, Parity, Maj, turned, word as wordAt, W, rounds as roundsOf, compress as compressed};
-ghost use Rattle.signature_sha1_compression.specs.Steps.{Advances, Twenty};
+ghost use Rattle.signature_sha1_compression.specs.Compression.{ROTL, Ch, Parity, Maj, turned};
+ghost use Rattle.signature_sha1_compression.specs.Compression.{word as wordAt, W, rounds as roundsOf, compress as compressed};
+ghost use Rattle.signature_sha1_compression.specs.Rounds.{Advances, Twenty};
 
 // The five words of a hash value, and of the working variables.
+use base_integers::as_u32::wide;
+
 pub struct State {
     pub a: u32,
     pub b: u32,
@@ -53,12 +56,6 @@ fn round(s: State, m: u32, k: u32, w: u32) -> State
         d: s.c,
         e: s.d,
     }
-}
-
-fn wide(x: u8) -> u32
-    ensures { λ r. ⌜ (r ≡ x) × (r < 256) ⌝ }
-{
-    x as u32
 }
 
 fn word(s: &[u8], at: usize) -> u32

@@ -1,3 +1,5 @@
 pub mod Moves
 pub mod Brought
+pub mod BroughtLaws
 pub mod Arranging
+pub mod ArrangingLaws

@@ -5,15 +5,16 @@ ghost use lib.ListN.{length, take, drop};
 ghost use Rattle.store_order_table.specs.Table.{Names};
 ghost use Rattle.store_arrange.specs.Moves.{Distinct, arranged};
 ghost use Rattle.store_arrange.specs.Brought.{exchanged, renamed, Renamed, Brought};
-use store_block::wide;
+use base_integers::as_usize::wide;
+use store_block::offsets::BLOCK_BYTES;
 
 // The 512 bytes from a on.
-fn block_from(store: &[u8], a: usize) -> [u8; 512]
+fn block_from(store: &[u8], a: usize) -> [u8; BLOCK_BYTES]
     requires { ⌜ a + 512 ≤ length (now store) ⌝ }
     ensures { λ r. ⌜ r ≡ take 512 (drop a (now (store .entry))) ⌝ }
 {
-    let mut b = [0u8; 512];
-    let e = a + 512;
+    let mut b = [0u8; BLOCK_BYTES];
+    let e = a + BLOCK_BYTES;
     store_block::copy(&mut b, 0, &store[a..e]);
     b
 }
@@ -57,7 +58,7 @@ fn bring(store: &mut [u8], order: &mut [u8], j: usize, s: usize)
     if s == j {
         return;
     }
-    exchange(store, j * 512, s * 512);
+    exchange(store, j * BLOCK_BYTES, s * BLOCK_BYTES);
     rename(order, j as u8, s as u8);
 }
 
@@ -73,7 +74,7 @@ pub fn arrange(store: &mut [u8], table: [u8; 128], used: usize)
         bring(store, &mut order, j, s);
         j += 1;
     }
-    let a = used * 512;
+    let a = used * BLOCK_BYTES;
     let n = store.len() - a;
     store_block::clear(store, a, n);
 }

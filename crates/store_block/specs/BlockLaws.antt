@@ -6,7 +6,9 @@ use native.Mathlib.Omega.{arith}
 use lib.ListN.{length, take, drop, replicate, length-append, length-replicate}
 use lib.Seq.{take-at, drop-at, drop-drop}
 use Rattle.store_block.specs.Entry.{Entry, Fit, Sized}
-use Rattle.store_block.specs.Block.{fill, sumFrom, be32, head, body, block, decode, BlockGood}
+use Rattle.base_definitions.specs.BigEndian.{be32}
+use Rattle.base_definitions.specs.Lists.{fill}
+use Rattle.store_block.specs.Block.{sumFrom, head, body, block, decode, BlockGood}
 
 pub length-fill : (n : ℕ) (xs : List ℕ) → length xs ≤ n → length (fill n xs) ≡ n
 unfolding fill

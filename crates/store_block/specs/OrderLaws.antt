@@ -10,9 +10,9 @@ use lib.ListN.{length, drop, getD, drop-of-length-le}
 use lib.Seq.{drop-cons}
 use native.Mathlib.Numerals.{add-one}
 use borrow.Author.Tests.{lt-ltb, le-ltb, ltb-true, ltb-false}
-use Rattle.store_block.specs.declared.Order.{Order}
 use Rattle.store_block.specs.declared.Order.the-variants.{Less, Equal, Greater}
 use Rattle.store_block.specs.Order.{cmp, Below}
+use Rattle.store_block.specs.Flip.{flip}
 
 -- three ways two numbers stand
 pub three {ℓ} : {X : Type ℓ} (x y : ℕ) → (x < y → X) → (y < x → X) → (x ≡ y → X) → X
@@ -54,12 +54,6 @@ cmp-equal (x ∷ xs) (y ∷ ys) e = go (λ p. cmp-equal xs ys p)
         (λ h. absurd (let l : cmp (x ∷ xs) (y ∷ ys) ≡ Less = cmp-less x y xs ys h in let z : _≡_ {A = ℕ} 0 1 = cc in omega arith))
         (λ h. absurd (let l : cmp (x ∷ xs) (y ∷ ys) ≡ Greater = cmp-greater x y xs ys h in let z : _≡_ {A = ℕ} 0 1 = cc in omega arith))
         (λ h. ap₂ (λ (a : ℕ) (l : List ℕ). a ∷ l) h (ih (sym (cmp-same x y xs ys h) ∙ e)))
-
--- total and strict: turned round, it is the other way
-abbrev pub flip : Order → Order
-flip Less = Greater
-flip Equal = Equal
-flip Greater = Less
 
 pub cmp-flip : (xs ys : List ℕ) → cmp ys xs ≡ flip (cmp xs ys)
 unfolding cmp

@@ -1,11 +1,14 @@
 // Entries in blocks of 512 bytes: the order of keys, and bytes compared, copied and tested for zero.
+pub mod offsets;
+
 ghost use mathlib.Core.Path.{_≡_};
 ghost use Prim.Native.Nat.{_+_, _<_, _≤_};
 ghost use lib.ListN.{length, drop, replicate};
 ghost use Rattle.store_block.specs.Order.{cmp};
 ghost use Rattle.store_block.specs.Word.{wordAt};
 ghost use Rattle.store_block.specs.Decides.{Decides};
-ghost use Rattle.store_block.specs.Written.{over};
+ghost use Rattle.store_block.specs.Over.{over};
+use base_integers::as_usize::wide;
 
 pub enum Order {
     Less,
@@ -73,12 +76,6 @@ pub fn compare(a: &[u8], b: &[u8]) -> Order
         e += 4;
     }
     compare_from(a, b, i)
-}
-
-pub fn wide(x: u8) -> usize
-    ensures { λ r. ⌜ (r ≡ x) × (r < 256) ⌝ }
-{
-    x as usize
 }
 
 // Writes src into out from the byte at on.

@@ -1,3 +1,3 @@
-// The working block: zeros, filled with an entry's parts and sealed with the sum. The rules of one block.
+// A block made of an entry, and the rules that a block keeps.
 pub mod make;
 pub mod rules;

@@ -3,8 +3,24 @@ ghost use mathlib.Core.Path.{_≡_};
 ghost use mathlib.Core.List.{_++_};
 ghost use lib.ListN.{length, take};
 ghost use Rattle.store_block.specs.Entry.{entry, Sized};
-ghost use Rattle.store_block.specs.Block.{block, be32, sumFrom};
+ghost use Rattle.base_definitions.specs.BigEndian.{be32};
+ghost use Rattle.store_block.specs.Block.{block, sumFrom};
 use store_block::copy;
+use store_block::offsets::ALGORITHM;
+use store_block::offsets::BLOCK_BYTES;
+use store_block::offsets::KEY;
+use store_block::offsets::KEY_LENGTH;
+use store_block::offsets::SUM;
+use store_block::offsets::SUM_2;
+use store_block::offsets::SUM_3;
+use store_block::offsets::SUM_4;
+use store_block::offsets::TAG;
+use store_block::offsets::TAG_LENGTH;
+use store_block::offsets::VALUE;
+use store_block::offsets::VALUE_LENGTH;
+use store_block::offsets::VALUE_LENGTH_LOW;
+use store_block::offsets::VERSION;
+use store_block::offsets::VERSION_LENGTH;
 use store_block_sum::sum;
 
 // Sets the check bytes of a working block.
@@ -13,33 +29,39 @@ pub fn seal(b: &mut [u8])
     ensures { λ _. ⌜ now (b .exit) ≡ take 508 (now (b .entry)) ++ be32 (sumFrom 0 (take 508 (now (b .entry)))) ⌝ }
 {
     let s = sum(b);
-    b[508] = (s / 16777216) as u8;
-    b[509] = (s / 65536 % 256) as u8;
-    b[510] = (s / 256 % 256) as u8;
-    b[511] = (s % 256) as u8;
+    b[SUM] = (s / 16777216) as u8;
+    b[SUM_2] = (s / 65536 % 256) as u8;
+    b[SUM_3] = (s / 256 % 256) as u8;
+    b[SUM_4] = (s % 256) as u8;
 }
 
 // A working block of zeros, filled with an entry's parts and sealed.
-pub fn make(key: &[u8], version: &[u8], tag: &[u8], value: &[u8], algorithm: u8) -> [u8; 512]
+pub fn make(
+    key: &[u8],
+    version: &[u8],
+    tag: &[u8],
+    value: &[u8],
+    algorithm: u8,
+) -> [u8; BLOCK_BYTES]
     requires { ⌜ Sized (entry (now key) (now version) (now tag) (now value) algorithm) ⌝ }
     ensures { λ r. ⌜ r ≡ block (entry (now (key .entry)) (now (version .entry)) (now (tag .entry)) (now (value .entry)) algorithm) ⌝ }
 {
-    let mut b = [0u8; 512];
+    let mut b = [0u8; BLOCK_BYTES];
     let k = key.len();
     let v = version.len();
     let t = tag.len();
     let n = value.len();
     b[0] = 1;
-    b[1] = k as u8;
-    b[2] = v as u8;
-    b[3] = t as u8;
-    b[4] = (n / 256) as u8;
-    b[5] = (n % 256) as u8;
-    b[6] = algorithm;
-    copy(&mut b, 8, key);
-    copy(&mut b, 72, version);
-    copy(&mut b, 88, tag);
-    copy(&mut b, 120, value);
+    b[KEY_LENGTH] = k as u8;
+    b[VERSION_LENGTH] = v as u8;
+    b[TAG_LENGTH] = t as u8;
+    b[VALUE_LENGTH] = (n / 256) as u8;
+    b[VALUE_LENGTH_LOW] = (n % 256) as u8;
+    b[ALGORITHM] = algorithm;
+    copy(&mut b, KEY, key);
+    copy(&mut b, VERSION, version);
+    copy(&mut b, TAG, tag);
+    copy(&mut b, VALUE, value);
     seal(&mut b);
     b
 }

@@ -3,7 +3,17 @@ ghost use mathlib.Core.Path.{_≡_};
 ghost use lib.ListN.{length};
 ghost use Rattle.store_block.specs.Block.{SumRight, BlockGood};
 ghost use Rattle.store_block.specs.Decides.{Decides, DecidesGiven};
-use store_block::wide;
+use base_integers::as_usize::wide;
+use store_block::offsets::KEY;
+use store_block::offsets::KEY_LENGTH;
+use store_block::offsets::SUM;
+use store_block::offsets::TAG;
+use store_block::offsets::TAG_LENGTH;
+use store_block::offsets::VALUE;
+use store_block::offsets::VALUE_LENGTH;
+use store_block::offsets::VALUE_LENGTH_LOW;
+use store_block::offsets::VERSION;
+use store_block::offsets::VERSION_LENGTH;
 use store_block::zeros;
 use store_block_limits::limits;
 use store_block_sum_check::sum_right;
@@ -16,26 +26,26 @@ pub fn rules_kept(b: &[u8]) -> bool
     if !limits(b) {
         return false;
     }
-    let ke = 8 + wide(b[1]);
-    let ve = 72 + wide(b[2]);
-    let te = 88 + wide(b[3]);
-    let ne = 120 + (wide(b[4]) * 256 + wide(b[5]));
+    let ke = KEY + wide(b[KEY_LENGTH]);
+    let ve = VERSION + wide(b[VERSION_LENGTH]);
+    let te = TAG + wide(b[TAG_LENGTH]);
+    let ne = VALUE + (wide(b[VALUE_LENGTH]) * 256 + wide(b[VALUE_LENGTH_LOW]));
     if b[0] != 1 {
         return false;
     }
     if b[7] != 0 {
         return false;
     }
-    if !zeros(&b[ke..72]) {
+    if !zeros(&b[ke..VERSION]) {
         return false;
     }
-    if !zeros(&b[ve..88]) {
+    if !zeros(&b[ve..TAG]) {
         return false;
     }
-    if !zeros(&b[te..120]) {
+    if !zeros(&b[te..VALUE]) {
         return false;
     }
-    if !zeros(&b[ne..508]) {
+    if !zeros(&b[ne..SUM]) {
         return false;
     }
     true

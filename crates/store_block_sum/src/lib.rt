@@ -4,7 +4,7 @@ ghost use Prim.Native.Nat.{_<_, _≤_};
 ghost use lib.ListN.{length, take};
 ghost use Rattle.store_block.specs.Block.{sumFrom};
 ghost use Rattle.store_block_sum.specs.Sum.{Column, Columns, lastFour};
-use store_block::wide;
+use base_integers::as_usize::wide;
 
 fn short(x: u8) -> u16
     ensures { λ r. ⌜ (r ≡ x) × (r < 256) ⌝ }

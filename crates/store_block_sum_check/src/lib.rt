@@ -4,7 +4,11 @@ ghost use lib.ListN.{length};
 ghost use Rattle.store_block.specs.Block.{SumRight};
 ghost use Rattle.store_block.specs.Decides.{Decides};
 ghost use Rattle.store_block.specs.Direct.{Held};
-use store_block::wide;
+use base_integers::as_usize::wide;
+use store_block::offsets::SUM;
+use store_block::offsets::SUM_2;
+use store_block::offsets::SUM_3;
+use store_block::offsets::SUM_4;
 use store_block_sum::sum;
 
 // The number that bytes 508 to 511 hold.
@@ -12,10 +16,10 @@ fn held(b: &[u8]) -> u64
     requires { ⌜ length (now b) ≡ 512 ⌝ }
     ensures { λ r. ⌜ Held (now (b .entry)) r ⌝ }
 {
-    let x = wide(b[508]) * 16777216;
-    let y = wide(b[509]) * 65536;
-    let z = wide(b[510]) * 256;
-    let w = wide(b[511]);
+    let x = wide(b[SUM]) * 16777216;
+    let y = wide(b[SUM_2]) * 65536;
+    let z = wide(b[SUM_3]) * 256;
+    let w = wide(b[SUM_4]);
     (x + y + z + w) as u64
 }
 

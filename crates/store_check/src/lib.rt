@@ -7,13 +7,15 @@ ghost use Rattle.store_block.specs.Decides.{Decides};
 ghost use Rattle.store_layout.specs.Store.{blocksIn, storeGood};
 ghost use Rattle.store_layout.specs.Check.{GoodFrom};
 use store_block::Order;
+use store_block::offsets::BLOCK_BYTES;
+use store_block::offsets::KEY;
 
 // Whether whole blocks meet every block rule, used ones first and their keys ascending.
 fn blocks_good(store: &[u8]) -> bool
     requires { ⌜ length (now store) ≡ blocksIn (now store) * 512 ⌝ }
     ensures { λ r. ⌜ Decides r (GoodFrom [] (now (store .entry)) (blocksIn (now (store .entry)))) ⌝ }
 {
-    let n = store.len() / 512;
+    let n = store.len() / BLOCK_BYTES;
     let mut i: usize = 0;
     let mut a: usize = 0;
     let mut p: usize = 0;
@@ -22,12 +24,12 @@ fn blocks_good(store: &[u8]) -> bool
         if store[a] == 0 {
             return store_block::zeros(&store[a..]);
         }
-        let e = a + 512;
+        let e = a + BLOCK_BYTES;
         if !store_block_codec::rules::good(&store[a..e]) {
             return false;
         }
-        let ks = a + 8;
-        let ke = ks + store_block::wide(store[a + 1]);
+        let ks = a + KEY;
+        let ke = ks + base_integers::as_usize::wide(store[a + 1]);
         match store_block::compare(&store[p..q], &store[ks..ke]) {
             Order::Less => {}
             Order::Equal => return false,
@@ -36,7 +38,7 @@ fn blocks_good(store: &[u8]) -> bool
         p = ks;
         q = ke;
         i += 1;
-        a += 512;
+        a += BLOCK_BYTES;
     }
     true
 }

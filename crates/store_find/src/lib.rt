@@ -2,6 +2,11 @@
 ghost use mathlib.Core.Path.{_≡_};
 ghost use Rattle.store_layout.specs.Entries.{Sought, EntryAt, noParts};
 use store_block::Order;
+use store_block::offsets::BLOCK_BYTES;
+use store_block::offsets::KEY;
+use store_block::offsets::TAG;
+use store_block::offsets::VALUE;
+use store_block::offsets::VERSION;
 use store_layout::Found;
 use store_layout::Part;
 use store_layout::Parts;
@@ -10,22 +15,22 @@ use store_layout::Parts;
 pub fn find(store: &[u8], key: &[u8]) -> Found
     ensures { λ r. ⌜ Sought (now (store .entry)) (now (key .entry)) r ⌝ }
 {
-    let n = store.len() / 512;
+    let n = store.len() / BLOCK_BYTES;
     let mut i: usize = 0;
     let mut a: usize = 0;
     while i < n {
         if store[a] == 0 {
             return Found::Gap(i);
         }
-        let s = a + 8;
-        let e = s + store_block::wide(store[a + 1]);
+        let s = a + KEY;
+        let e = s + base_integers::as_usize::wide(store[a + 1]);
         match store_block::compare(key, &store[s..e]) {
             Order::Less => return Found::Gap(i),
             Order::Equal => return Found::At(i),
             Order::Greater => {}
         }
         i += 1;
-        a += 512;
+        a += BLOCK_BYTES;
     }
     Found::Gap(i)
 }
@@ -34,31 +39,32 @@ pub fn find(store: &[u8], key: &[u8]) -> Found
 pub fn entry_at(store: &[u8], i: usize) -> Parts
     ensures { λ r. ⌜ EntryAt (now (store .entry)) i r ⌝ }
 {
-    if store.len() / 512 <= i {
+    if store.len() / BLOCK_BYTES <= i {
         return no_parts();
     }
-    let a = i * 512;
-    let n = store_block::wide(store[a + 4]) * 256 + store_block::wide(store[a + 5]);
+    let a = i * BLOCK_BYTES;
+    let n = base_integers::as_usize::wide(store[a + 4]) * 256
+        + base_integers::as_usize::wide(store[a + 5]);
     if 384 < n {
         return no_parts();
     }
-    let k = store_block::wide(store[a + 1]);
-    let v = store_block::wide(store[a + 2]);
-    let t = store_block::wide(store[a + 3]);
+    let k = base_integers::as_usize::wide(store[a + 1]);
+    let v = base_integers::as_usize::wide(store[a + 2]);
+    let t = base_integers::as_usize::wide(store[a + 3]);
     let key = Part {
-        start: a + 8,
+        start: a + KEY,
         len: k,
     };
     let version = Part {
-        start: a + 72,
+        start: a + VERSION,
         len: v,
     };
     let tag = Part {
-        start: a + 88,
+        start: a + TAG,
         len: t,
     };
     let value = Part {
-        start: a + 120,
+        start: a + VALUE,
         len: n,
     };
     let algorithm = store[a + 6];

@@ -1,6 +1,6 @@
 -- What the calls do, said of a list of entries in the order of their keys.
 use mathlib.Core.Path.{_≡_}
-use mathlib.Core.Bool.{Bool, true, false}
+use mathlib.Core.Bool.{Bool, true, cond}
 use mathlib.Core.List.{List, [], _∷_}
 use Prim.Native.Nat.{ℕ, _+_, _≤_}
 use lib.Dec.{ltb}
@@ -26,10 +26,6 @@ unfoldable pub byOrder {ℓ} : {X : Type ℓ} → Order → X → X → X → X
 byOrder Less a b c = a
 byOrder Equal a b c = b
 byOrder Greater a b c = c
-
-unfoldable pub pick {ℓ} : {X : Type ℓ} → Bool → X → X → X
-pick true a b = a
-pick false a b = b
 
 -- where a key stands, or would stand, when the first entry has place i
 unfoldable pub findFrom : ℕ → List ℕ → List Entry → Found
@@ -120,7 +116,7 @@ hasRoom l e = roomy (findIn (e .key) (entriesOf l)) (length (entriesOf l)) (bloc
 
 -- put answers Unfit for an entry that does not fit, Full for "a new key .. with no blank block"
 unfoldable pub putAnswer : List ℕ → Entry → PutAnswer
-putAnswer l e = pick (fitTest e) (pick (hasRoom l e) Stored Full) Unfit
+putAnswer l e = cond (fitTest e) (cond (hasRoom l e) Stored Full) Unfit
 
 unfoldable pub whenStored {ℓ} : {X : Type ℓ} → PutAnswer → X → X → X
 whenStored Stored a b = a

@@ -7,14 +7,15 @@ use lib.ListN.{length}
 use Rattle.store_block.specs.declared.Order.{Order}
 use Rattle.store_block.specs.declared.Order.the-variants.{Less, Equal, Greater}
 use Rattle.store_block.specs.Order.{cmp, Below}
-use Rattle.store_block.specs.OrderLaws.{cmp-equal, cmp-flip, flip, below-trans}
+use Rattle.store_block.specs.OrderLaws.{cmp-equal, cmp-flip, below-trans}
+use Rattle.store_block.specs.Flip.{flip}
 use Rattle.store_block.specs.Entry.{Entry, Fit}
 use Rattle.store_layout.specs.declared.Found.the-variants.{At, Gap}
 use Rattle.store_layout.specs.declared.Place.{Place}
 use Rattle.store_layout.specs.declared.Place.the-variants.{There, Nothing}
 use Rattle.store_layout.specs.Store.{AllFit, none, more, Above, Sorted}
 use Rattle.store_layout.specs.Entries.{byOrder, findFrom, placeOf, pastOf, below, upTo, nextFrom, previousFrom, putEntry, removeEntry}
-use Rattle.store_layout.specs.StoreLaws.{insertAt, replaceAt, removeAt}
+use Rattle.store_layout.specs.Places.{InGap, IsAt}
 
 pub by-less {ℓ} : {X : Type ℓ} (o : Order) (a b c d : X) → o ≡ Less → byOrder o a b c ≡ d → a ≡ d
 unfolding byOrder
@@ -56,22 +57,6 @@ by-order {X = X} k l f g h = go (cmp k l) refl
     go Greater e = h e
 
 -- ---- what a search says of the entries with one put in or taken out
-
--- the key would stand at place i
-pub record InGap (j i : ℕ) (e : Entry) (es : List Entry) : Type 0 where
-  pub off : ℕ
-  pub place : i ≡ j + off
-  pub within : off ≤ length es
-  pub put : putEntry e es ≡ insertAt off e es
-  pub removed : removeEntry (e .key) es ≡ es
-
--- the key stands at place i
-pub record IsAt (j i : ℕ) (e : Entry) (es : List Entry) : Type 0 where
-  pub off : ℕ
-  pub place : i ≡ j + off
-  pub within : off < length es
-  pub put : putEntry e es ≡ replaceAt off e es
-  pub removed : removeEntry (e .key) es ≡ removeAt off es
 
 pub in-gap : (j i : ℕ) (e : Entry) (es : List Entry) → findFrom j (e .key) es ≡ Gap i → InGap j i e es
 unfolding findFrom putEntry removeEntry

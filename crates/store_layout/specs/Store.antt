@@ -1,21 +1,22 @@
 -- The store, document 01, "Blocks": "Used blocks come first, every used block's key strictly below the next .. Blank blocks follow."
 use mathlib.Core.Path.{_≡_}
-use mathlib.Core.Bool.{Bool, true, false}
+use mathlib.Core.Bool.{Bool, true, false, _&&_}
 use mathlib.Core.List.{List, [], _∷_, _++_}
 use Prim.Native.Nat.{ℕ, zero, suc, _-_, _*_, _/_, _≤_}
 use lib.Dec.{eqb, leb}
 use lib.ListN.{length, take, drop, getD, replicate}
 use Rattle.store_block.specs.Order.{cmp, Below}
 use Rattle.store_block.specs.Entry.{Entry, Fit}
-use Rattle.store_block.specs.Block.{block, decode, both, isEqual, isLess, blockTest}
+use Rattle.store_block.specs.Block.{block, decode, isEqual, isLess, blockTest}
+use Rattle.store_block.specs.Offsets.{BLOCK-BYTES}
 
 -- "blocks of 512 bytes": how many some bytes have
 abbrev pub blocksIn : List ℕ → ℕ
-blocksIn l = length l / 512
+blocksIn l = length l / BLOCK-BYTES
 
 -- "1 to 128 blocks of 512"
 unfoldable pub sizeGood : List ℕ → Bool
-sizeGood l = both (leb 1 (blocksIn l)) (both (leb (blocksIn l) 128) (eqb (blocksIn l * 512) (length l)))
+sizeGood l = leb 1 (blocksIn l) && (leb (blocksIn l) 128 && eqb (blocksIn l * BLOCK-BYTES) (length l))
 
 unfoldable pub blocks : List Entry → List ℕ
 blocks [] = []
@@ -23,12 +24,12 @@ blocks (e ∷ es) = block e ++ blocks es
 
 -- the bytes of entries in n blocks: their blocks, and then blank ones ("A blank block is 512 zero bytes")
 unfoldable pub bytesOf : ℕ → List Entry → List ℕ
-bytesOf n es = blocks es ++ replicate ((n - length es) * 512) 0
+bytesOf n es = blocks es ++ replicate ((n - length es) * BLOCK-BYTES) 0
 
 -- the entries that n blocks hold: those of the blocks before the first whose byte 0 is zero
 unfoldable pub entriesFrom : ℕ → List ℕ → List Entry
 entriesFrom zero l = []
-entriesFrom (suc n) l = elim (eqb (getD l 0 0) 0) [ true ↦ [] | false ↦ decode l ∷ entriesFrom n (drop 512 l) ]
+entriesFrom (suc n) l = elim (eqb (getD l 0 0) 0) [ true ↦ [] | false ↦ decode l ∷ entriesFrom n (drop BLOCK-BYTES l) ]
 
 -- the entries of any bytes
 unfoldable pub entriesOf : List ℕ → List Entry
@@ -61,10 +62,10 @@ unfoldable pub goodFrom : ℕ → List ℕ → List ℕ → Bool
 goodFrom zero k l = eqb (length l) 0
 goodFrom (suc n) k l =
     elim (eqb (getD l 0 0) 0) [
-      | true ↦ both (eqb (length l) (suc n * 512)) (isEqual (cmp l (replicate (length l) 0)))
-      | false ↦ both (blockTest (take 512 l)) (both (isLess (cmp k (decode l .key))) (goodFrom n (decode l .key) (drop 512 l)))
+      | true ↦ (eqb (length l) (suc n * 512) && isEqual (cmp l (replicate (length l) 0)))
+      | false ↦ (blockTest (take 512 l) && (isLess (cmp k (decode l .key)) && goodFrom n (decode l .key) (drop BLOCK-BYTES l)))
     ]
 
 -- false is refusal 2, STORE_BAD
 unfoldable pub storeGood : List ℕ → Bool
-storeGood l = both (leb 1 (blocksIn l)) (both (leb (blocksIn l) 128) (goodFrom (blocksIn l) [] l))
+storeGood l = leb 1 (blocksIn l) && (leb (blocksIn l) 128 && goodFrom (blocksIn l) [] l)

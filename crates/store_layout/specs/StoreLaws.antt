@@ -12,8 +12,10 @@ use borrow.Author.Tests.{eq-eqb, ne-eqb}
 use Rattle.store_block.specs.Entry.{Entry, Fit, noEntry}
 use Rattle.store_block.specs.Block.{block, body, head, decode}
 use Rattle.store_block.specs.BlockLaws.{sized, decode-block, length-block}
-use Rattle.store_block.specs.Written.{over, over-after, over-before}
+use Rattle.store_block.specs.Over.{over}
+use Rattle.store_block.specs.OverLaws.{over-after, over-before}
 use Rattle.store_layout.specs.Store.{blocksIn, blocks, bytesOf, entriesFrom, entriesOf, AllFit, none, more, Sorted, Good}
+use Rattle.store_layout.specs.Splices.{insertAt, replaceAt, removeAt}
 
 pub from-blank : (n : ℕ) (l : List ℕ) → getD l 0 0 ≡ 0 → entriesFrom n l ≡ []
 unfolding entriesFrom
@@ -159,16 +161,6 @@ bytes-between es xs n i j m q =
 blocks-one : (e : Entry) → blocks (e ∷ []) ≡ block e
 unfolding blocks
 blocks-one e = append-nil (block e)
-
--- the entries with e at place i, with e in place of the one there, and without the one there
-abbrev pub insertAt : ℕ → Entry → List Entry → List Entry
-insertAt i e es = take i es ++ (e ∷ drop i es)
-
-abbrev pub replaceAt : ℕ → Entry → List Entry → List Entry
-replaceAt i e es = take i es ++ (e ∷ drop (suc i) es)
-
-abbrev pub removeAt : ℕ → List Entry → List Entry
-removeAt i es = take i es ++ drop (suc i) es
 
 module _ (es : List Entry) (n i : ℕ) (fs : AllFit es) (k : length es ≤ n) where
   -- what follows the rest of the entries

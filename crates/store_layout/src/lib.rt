@@ -2,6 +2,7 @@
 ghost use mathlib.Core.Path.{_≡_};
 ghost use lib.ListN.{length};
 ghost use Rattle.store_layout.specs.Store.{sizeGood, entriesOf, Good};
+use store_block::offsets::BLOCK_BYTES;
 
 // Where a key stands, or would stand.
 pub enum Found {
@@ -43,20 +44,20 @@ pub enum DeleteAnswer {
 pub fn size_good(store: &[u8]) -> bool
     ensures { λ r. ⌜ r ≡ sizeGood (now (store .entry)) ⌝ }
 {
-    if store.len() < 512 {
+    if store.len() < BLOCK_BYTES {
         return false;
     }
     if 65536 < store.len() {
         return false;
     }
-    store.len() % 512 == 0
+    store.len() % BLOCK_BYTES == 0
 }
 
 // The number of used blocks.
 pub fn count(store: &[u8]) -> usize
     ensures { λ r. ⌜ (Good (now (store .entry)) → r ≡ length (entriesOf (now (store .entry)))) ⌝ }
 {
-    let n = store.len() / 512;
+    let n = store.len() / BLOCK_BYTES;
     let mut i: usize = 0;
     let mut a: usize = 0;
     while i < n {
@@ -64,7 +65,7 @@ pub fn count(store: &[u8]) -> usize
             return i;
         }
         i += 1;
-        a += 512;
+        a += BLOCK_BYTES;
     }
     i
 }

@@ -1,5 +1,6 @@
 -- Local read, document 01, "What the box does": "the value under a key comes back as a part of the lent store, not a copy; empty if there is
 -- none. A companion call says found, not found (also for a key that isn't 1 to 64 bytes), or, judged first, refusal 2, where the part is empty too."
+use mathlib.Core.Bool.{cond}
 use mathlib.Core.Path.{_≡_}
 use mathlib.Core.List.{List, []}
 use Prim.Native.Nat.{ℕ, _+_, _≤_}
@@ -8,7 +9,7 @@ use Rattle.store_block.specs.Entry.{Entry, noEntry}
 use Rattle.store_layout.specs.declared.Found.{Found}
 use Rattle.store_layout.specs.declared.Found.the-variants.{At, Gap}
 use Rattle.store_layout.specs.Store.{entriesOf, storeGood}
-use Rattle.store_layout.specs.Entries.{pick, findIn}
+use Rattle.store_layout.specs.Entries.{findIn}
 use Rattle.store_local_read.specs.declared.Local.{Local}
 use Rattle.store_local_read.specs.declared.Local.the-variants.{Value, NotFound, StoreBad}
 
@@ -24,7 +25,7 @@ under (Gap i) es = notFound
 
 -- "found, not found .. or, judged first, refusal 2"
 unfoldable pub localOf : List ℕ → List ℕ → Outcome
-localOf l k = pick (storeGood l) (under (findIn k (entriesOf l)) (entriesOf l)) storeBad
+localOf l k = cond (storeGood l) (under (findIn k (entriesOf l)) (entriesOf l)) storeBad
 
 -- the part that comes back: "empty if there is none", on refusal 2 "empty too"
 unfoldable pub valueOf : Outcome → List ℕ

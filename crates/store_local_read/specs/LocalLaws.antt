@@ -1,40 +1,36 @@
 -- Laws of local read: what each way through it says; a key that isn't 1 to 64 bytes is not found.
 use mathlib.Core.Path.{_≡_, refl, sym, ap, _∙_}
-use mathlib.Core.Bool.{Bool, true, false}
+use mathlib.Core.Bool.{Bool, true, false, cond}
 use mathlib.Core.List.{List, [], _∷_}
 use Prim.Native.Nat.{ℕ, _+_, _≤_}
 use native.Mathlib.Omega.{arith}
-use lib.ListN.{length, getD}
+use lib.ListN.{length}
 use Rattle.store_block.specs.declared.Order.{Order}
 use Rattle.store_block.specs.declared.Order.the-variants.{Less, Equal, Greater}
 use Rattle.store_block.specs.Order.{cmp}
 use Rattle.store_block.specs.OrderLaws.{cmp-equal}
-use Rattle.store_block.specs.Entry.{Entry, noEntry}
+use Rattle.store_block.specs.Entry.{Entry}
 use Rattle.store_layout.specs.declared.Found.{Found}
 use Rattle.store_layout.specs.declared.Found.the-variants.{At, Gap}
 use Rattle.store_layout.specs.Store.{entriesOf, storeGood, Good, AllFit}
-use Rattle.store_layout.specs.Check.{store-decides}
-use Rattle.store_layout.specs.Entries.{pick, byOrder, findFrom, findIn}
+use Rattle.store_layout.specs.CheckLaws.{store-decides}
+use Rattle.store_layout.specs.Entries.{byOrder, findFrom, findIn}
 use Rattle.store_local_read.specs.declared.Local.{Local}
 use Rattle.store_local_read.specs.declared.Local.the-variants.{NotFound, StoreBad}
-use Rattle.store_local_read.specs.Local.{found, notFound, storeBad, under, localOf, means, Inside, LocalIs}
-
--- what value_at says of a place
-pub record ValueAt (l : List ℕ) (i : ℕ) (r : Local) : Type 0 where
-  pub inside : Inside l r
-  pub same : Good l → means l r ≡ found (getD (entriesOf l) i noEntry .value)
+use Rattle.store_local_read.specs.Local.{notFound, storeBad, under, localOf, LocalIs}
+use Rattle.store_local_read.specs.ValueAt.{ValueAt}
 
 module _ (l k : List ℕ) where
   pub is-bad : storeGood l ≡ false → LocalIs l k StoreBad
-  unfolding localOf pick
-  is-bad h = record { inside = tt; same = sym (ap (λ (b : Bool). pick b (under (findIn k (entriesOf l)) (entriesOf l)) storeBad) h) }
+  unfolding localOf
+  is-bad h = record { inside = tt; same = sym (ap (λ (b : Bool). cond b (under (findIn k (entriesOf l)) (entriesOf l)) storeBad) h) }
 
   pub good-store : storeGood l ≡ true → Good l
   good-store h = store-decides l .yes h
 
   judged : storeGood l ≡ true → localOf l k ≡ under (findIn k (entriesOf l)) (entriesOf l)
-  unfolding localOf pick
-  judged h = ap (λ (b : Bool). pick b (under (findIn k (entriesOf l)) (entriesOf l)) storeBad) h
+  unfolding localOf
+  judged h = ap (λ (b : Bool). cond b (under (findIn k (entriesOf l)) (entriesOf l)) storeBad) h
 
   pub is-found : storeGood l ≡ true → (i : ℕ) (r : Local) → At i ≡ findIn k (entriesOf l) → ValueAt l i r → LocalIs l k r
   unfolding under

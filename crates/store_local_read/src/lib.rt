@@ -1,7 +1,7 @@
 use store_layout::Found;
 ghost use mathlib.Core.Path.{_≡_};
 ghost use Rattle.store_local_read.specs.Local.{LocalIs, valueOf, localOf};
-ghost use Rattle.store_local_read.specs.LocalLaws.{ValueAt};
+ghost use Rattle.store_local_read.specs.ValueAt.{ValueAt};
 
 // What a local read finds: the value's place in the store, nothing, or refusal 2.
 pub enum Local {

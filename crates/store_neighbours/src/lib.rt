@@ -5,6 +5,7 @@ ghost use lib.ListN.{length};
 ghost use Rattle.store_block.specs.Decides.{Decides};
 ghost use Rattle.store_layout.specs.Store.{entriesOf, Good};
 ghost use Rattle.store_layout.specs.Entries.{below, upTo, nextIn, previousIn};
+use store_block::offsets::BLOCK_BYTES;
 use store_find::find;
 use store_layout::Found;
 use store_layout::Place;
@@ -33,10 +34,10 @@ pub fn first_above(store: &[u8], bound: &[u8]) -> usize
 pub fn has(store: &[u8], i: usize) -> bool
     ensures { λ r. ⌜ (Good (now (store .entry)) → Decides r (i < length (entriesOf (now (store .entry))))) ⌝ }
 {
-    if store.len() / 512 <= i {
+    if store.len() / BLOCK_BYTES <= i {
         return false;
     }
-    let a = i * 512;
+    let a = i * BLOCK_BYTES;
     store[a] == 1
 }
 

@@ -3,12 +3,14 @@ ghost use mathlib.Core.Path.{_≡_};
 ghost use mathlib.Core.List.{_∷_};
 ghost use Prim.Native.Nat.{_-_, _≤_, _<_};
 ghost use lib.ListN.{length, take, drop};
-ghost use Rattle.store_block.specs.Written.{over};
+ghost use Rattle.store_block.specs.Over.{over};
 ghost use Rattle.store_layout.specs.Entries.{findIn};
 ghost use Rattle.store_layout.specs.Store.{Sorted};
 ghost use Rattle.store_order_table.specs.Table.{entriesAt, Names};
+use base_integers::as_usize::wide;
 use store_block::Order;
-use store_block::wide;
+use store_block::offsets::BLOCK_BYTES;
+use store_block::offsets::KEY;
 use store_layout::Found;
 
 // The place of a key in a table, or where it would go: each turn leaves at most half of the places.
@@ -20,8 +22,8 @@ pub fn find(store: &[u8], order: &[u8], key: &[u8]) -> Found
     let mut hi = order.len();
     while lo < hi {
         let m = lo + (hi - lo) / 2;
-        let a = wide(order[m]) * 512;
-        let s = a + 8;
+        let a = wide(order[m]) * BLOCK_BYTES;
+        let s = a + KEY;
         let e = s + wide(store[a + 1]);
         match store_block::compare(key, &store[s..e]) {
             Order::Less => hi = m,

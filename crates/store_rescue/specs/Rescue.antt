@@ -1,5 +1,5 @@
 -- Change request 6: "a rescue over a lent store and a lent report of one byte for each block".
-use mathlib.Core.Bool.{Bool, true, false}
+use mathlib.Core.Bool.{Bool, true, false, cond}
 use mathlib.Core.List.{List, [], _∷_}
 use Prim.Native.Nat.{ℕ, zero, suc}
 use lib.Dec.{eqb}
@@ -8,7 +8,7 @@ use Rattle.store_block.specs.Order.{cmp}
 use Rattle.store_block.specs.Entry.{Entry}
 use Rattle.store_block.specs.Block.{decode, isEqual}
 use Rattle.store_layout.specs.Store.{blocksIn, bytesOf, sizeGood}
-use Rattle.store_layout.specs.Entries.{pick, putEntry}
+use Rattle.store_layout.specs.Entries.{putEntry}
 use Rattle.store_rescue.specs.declared.state.BlockState.{BlockState}
 use Rattle.store_rescue.specs.declared.state.BlockState.the-variants.{Blank, SumWrong, RuleBroken, Sound}
 use Rattle.store_rescue.specs.State.{stateOf}
@@ -23,14 +23,14 @@ blocksFrom (suc n) l = take 512 l ∷ blocksFrom n (drop 512 l)
 -- whether one of some entries has a key
 unfoldable pub hasKey : List ℕ → List Entry → Bool
 hasKey k [] = false
-hasKey k (e ∷ es) = pick (isEqual (cmp k (e .key))) true (hasKey k es)
+hasKey k (e ∷ es) = cond (isEqual (cmp k (e .key))) true (hasKey k es)
 
 -- "Report bytes .. the first that applies: 0 blank, 2 check wrong, 3 other rule broken, 4 key of an earlier kept block, 1 kept"
 unfoldable pub report : Bool → BlockState → ℕ
 report earlier Blank = 0
 report earlier SumWrong = 2
 report earlier RuleBroken = 3
-report earlier Sound = pick earlier 4 1
+report earlier Sound = cond earlier 4 1
 
 -- the byte of a block, when es are the entries kept of the blocks before it
 unfoldable pub reportByte : List Entry → List ℕ → ℕ
@@ -38,7 +38,7 @@ reportByte es b = report (hasKey (decode b .key) es) (stateOf b)
 
 -- the entries kept, in the order of their keys: those before the block, and its own if it is kept
 unfoldable pub keptWith : List Entry → List ℕ → List Entry
-keptWith es b = pick (eqb (reportByte es b) 1) (putEntry (decode b) es) es
+keptWith es b = cond (eqb (reportByte es b) 1) (putEntry (decode b) es) es
 
 unfoldable pub keptFrom : List Entry → List (List ℕ) → List Entry
 keptFrom es [] = es
@@ -71,7 +71,7 @@ outcome n store report = record { number = n; store = store; report = report }
 
 -- "A wrong store length is refusal 2, then a wrong report length a new refusal 8"; nothing changes on either
 unfoldable pub rescueOf : List ℕ → List ℕ → Outcome
-rescueOf l r = pick (sizeGood l) (pick (eqb (length r) (blocksIn l)) (outcome 0 (rescuedStore l) (reportOf l)) (outcome 8 l r)) (outcome 2 l r)
+rescueOf l r = cond (sizeGood l) (cond (eqb (length r) (blocksIn l)) (outcome 0 (rescuedStore l) (reportOf l)) (outcome 8 l r)) (outcome 2 l r)
 
 -- the number of an answer
 abbrev pub rescueNumber : Rescued → ℕ

@@ -1,6 +1,6 @@
 -- What a rescue leaves: a good store of exactly the kept entries; a good store as it was; and the same again when it is done twice.
 use mathlib.Core.Path.{_≡_, refl, sym, ap, ap₂, _∙_, subst}
-use mathlib.Core.Bool.{true, false}
+use mathlib.Core.Bool.{true, false, cond}
 use mathlib.Core.List.{List, [], _∷_, _++_, append-assoc, append-nil}
 use Prim.Native.Nat.{ℕ, zero, suc, _+_, _-_, _*_, _≤_}
 use native.Mathlib.Nat.{not-suc-le-zero, le-of-suc-le-suc}
@@ -11,20 +11,25 @@ use lib.Seq.{take-at, drop-at}
 use Rattle.store_block.specs.declared.Order.{Order}
 use Rattle.store_block.specs.declared.Order.the-variants.{Greater}
 use Rattle.store_block.specs.Order.{cmp, Below}
-use Rattle.store_block.specs.OrderLaws.{cmp-flip, flip, below-trans}
-use Rattle.store_block.specs.Decides.{says-yes}
+use Rattle.store_block.specs.OrderLaws.{cmp-flip, below-trans}
+use Rattle.store_block.specs.Flip.{flip}
+use Rattle.store_block.specs.DecidesLaws.{says-yes}
 use Rattle.store_block.specs.Entry.{Entry, Fit}
 use Rattle.store_block.specs.Block.{block, decode, isEqual}
 use Rattle.store_block.specs.BlockLaws.{sized, length-block, decode-own, fit-good}
 use Rattle.store_layout.specs.Store.{blocksIn, blocks, bytesOf, entriesOf, AllFit, none, more, Above, Sorted, Good}
-use Rattle.store_layout.specs.Size.{SizeGood, good-size, is-size}
+use Rattle.store_layout.specs.Size.{SizeGood}
+use Rattle.store_layout.specs.SizeLaws.{good-size, is-size}
 use Rattle.store_layout.specs.StoreLaws.{room, bytes-cons, good-bytes, entries-bytes, length-bytes}
-use Rattle.store_layout.specs.Entries.{pick, byOrder, putEntry}
+use Rattle.store_layout.specs.Entries.{byOrder, putEntry}
 use Rattle.store_rescue.specs.StateLaws.{good-sound, blank-state}
 use Rattle.store_rescue.specs.Rescue.{blocksFrom, hasKey, report, reportByte, keptWith, keptFrom, reportFrom, keptOf, reportOf, rescuedStore, outcome, rescueOf}
-use Rattle.store_rescue.specs.Survey.{done}
-use Rattle.store_rescue.specs.Kept.{In, Keeping, keeping, ones, ones-most, kept-count}
-use Rattle.store_rescue.specs.Places.{KeptAt, keptBefore, in-kept, kept-in, length-blocks, length-report}
+use Rattle.store_rescue.specs.SurveyLaws.{done}
+use Rattle.store_rescue.specs.Kept.{In, Keeping, ones}
+use Rattle.store_rescue.specs.KeptLaws.{keeping, ones-most, kept-count}
+use Rattle.store_rescue.specs.Places.{KeptAt, keptBefore}
+use Rattle.store_rescue.specs.PlacesLaws.{in-kept, kept-in, length-blocks, length-report}
+use Rattle.store_rescue.specs.Report.{onesThenZeros}
 
 module _ (l : List ℕ) (z : SizeGood l) where
   kept-good : Keeping (keptOf l)
@@ -76,9 +81,9 @@ above-it : (k x : List ℕ) → Below x k → cmp k x ≡ Greater
 above-it k x b = cmp-flip x k ∙ ap flip b
 
 under-new : (es : List Entry) (k : List ℕ) → Under es k → hasKey k es ≡ false
-unfolding hasKey pick isEqual
+unfolding hasKey isEqual
 under-new [] k u = refl
-under-new (x ∷ xs) k u = ap (λ (o : Order). pick (isEqual o) true (hasKey k xs)) (above-it k (x .key) (u .0)) ∙ under-new xs k (u .1)
+under-new (x ∷ xs) k u = ap (λ (o : Order). cond (isEqual o) true (hasKey k xs)) (above-it k (x .key) (u .0)) ∙ under-new xs k (u .1)
 
 under-put : (es : List Entry) (e : Entry) → Under es (e .key) → putEntry e es ≡ es ++ (e ∷ [])
 unfolding putEntry byOrder
@@ -88,23 +93,23 @@ under-put (x ∷ xs) e u =
 
 -- a sound block behind those kept so far
 next-byte : (ps : List Entry) (e : Entry) → Fit e → Under ps (e .key) → reportByte ps (block e) ≡ 1
-unfolding reportByte report pick
+unfolding reportByte report
 next-byte ps e f u =
     let d : hasKey (decode (block e) .key) ps ≡ false = ap (λ (x : Entry). hasKey (x .key) ps) (decode-own e (sized f)) ∙ under-new ps (e .key) u in
     ap₂ report d (good-sound (block e) (fit-good e f))
 
 next-kept : (ps : List Entry) (e : Entry) → Fit e → Under ps (e .key) → keptWith ps (block e) ≡ ps ++ (e ∷ [])
-unfolding keptWith pick
+unfolding keptWith
 next-kept ps e f u =
-    ap (λ (n : ℕ). pick (eqb n 1) (putEntry (decode (block e)) ps) ps) (next-byte ps e f u) ∙ ap (λ (x : Entry). putEntry x ps) (decode-own e (sized f)) ∙ under-put ps e u
+    ap (λ (n : ℕ). cond (eqb n 1) (putEntry (decode (block e)) ps) ps) (next-byte ps e f u) ∙ ap (λ (x : Entry). putEntry x ps) (decode-own e (sized f)) ∙ under-put ps e u
 
 blank-byte : (ps : List Entry) → reportByte ps (replicate 512 0) ≡ 0
 unfolding reportByte report
 blank-byte ps = ap (report (hasKey (decode (replicate 512 0) .key) ps)) blank-state
 
 blank-with : (ps : List Entry) → keptWith ps (replicate 512 0) ≡ ps
-unfolding keptWith pick
-blank-with ps = ap (λ (n : ℕ). pick (eqb n 1) (putEntry (decode (replicate 512 0)) ps) ps) (blank-byte ps)
+unfolding keptWith
+blank-with ps = ap (λ (n : ℕ). cond (eqb n 1) (putEntry (decode (replicate 512 0)) ps) ps) (blank-byte ps)
 
 -- the blocks of n blank ones, and of an entry before others
 blank-blocks : (n : ℕ) → blocksFrom (suc n) (bytesOf (suc n) []) ≡ replicate 512 0 ∷ blocksFrom n (bytesOf n [])
@@ -121,10 +126,6 @@ entry-blocks n e es f =
     let w = bytes-cons e es n in
     let k = length-block e (sized f) in
     ap₂ (λ (x y : List ℕ). x ∷ blocksFrom n y) (ap (take 512) w ∙ take-at (block e) (bytesOf n es) 512 k) (ap (drop 512) w ∙ drop-at (block e) (bytesOf n es) 512 k)
-
--- a report of 1s then 0s
-abbrev pub onesThenZeros : ℕ → ℕ → List ℕ
-onesThenZeros used n = replicate used 1 ++ replicate (n - used) 0
 
 record Same (ps es : List Entry) (n : ℕ) : Type 0 where
   pub kept : keptFrom ps (blocksFrom n (bytesOf n es)) ≡ ps ++ es

@@ -1,4 +1,4 @@
-// One block judged: blank, its sum wrong, another rule broken, or sound. What a rescue of a damaged store answers, and what becomes of one block. The rescue of a damaged store.
+// The rescue of a damaged store: what each block is found to be, what becomes of it, and the whole.
 pub mod rescue;
 pub mod rule;
 pub mod state;

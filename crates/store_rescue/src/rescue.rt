@@ -1,5 +1,6 @@
 // The rescue of a damaged store.
 use crate::rule::Rescued;
+use store_block::offsets::BLOCK_BYTES;
 ghost use mathlib.Core.Path.{_≡_};
 ghost use lib.ListN.{length};
 ghost use Rattle.store_layout.specs.Store.{blocksIn};
@@ -30,7 +31,7 @@ pub fn rescue(store: &mut [u8], report: &mut [u8]) -> Rescued
     if !store_layout::size_good(store) {
         return Rescued::StoreBad;
     }
-    if report.len() != store.len() / 512 {
+    if report.len() != store.len() / BLOCK_BYTES {
         return Rescued::ReportBad;
     }
     let mut order = [0u8; 128];

@@ -1,5 +1,7 @@
 // What a rescue of a damaged store answers, and what becomes of one block.
 use crate::state::BlockState;
+use store_block::offsets::BLOCK_BYTES;
+use store_block::offsets::KEY;
 use store_layout::Found;
 ghost use Rattle.store_block.specs.Block.{BlockGood};
 ghost use Rattle.store_order_table.specs.Table.{blockAt};
@@ -22,9 +24,9 @@ fn keep(store: &[u8], order: &mut [u8], kept: usize, i: usize) -> Step
     requires { ⌜ Listed (now store) i kept (now order) × (Next (now store) i × BlockGood (blockAt (now store) i)) ⌝ }
     ensures { λ r. ⌜ Judged (now (store .entry)) i kept (now (order .entry)) (r .byte) (r .kept) (now (order .exit)) ⌝ }
 {
-    let a = i * 512;
-    let s = a + 8;
-    let e = s + store_block::wide(store[a + 1]);
+    let a = i * BLOCK_BYTES;
+    let s = a + KEY;
+    let e = s + base_integers::as_usize::wide(store[a + 1]);
     match store_order_table::find(store, &order[0..kept], &store[s..e]) {
         Found::At(_) => Step { byte: 4, kept },
         Found::Gap(p) => {
@@ -42,8 +44,8 @@ pub fn admit(store: &[u8], order: &mut [u8], kept: usize, i: usize) -> Step
     requires { ⌜ Listed (now store) i kept (now order) × Next (now store) i ⌝ }
     ensures { λ r. ⌜ Judged (now (store .entry)) i kept (now (order .entry)) (r .byte) (r .kept) (now (order .exit)) ⌝ }
 {
-    let a = i * 512;
-    let e = a + 512;
+    let a = i * BLOCK_BYTES;
+    let e = a + BLOCK_BYTES;
     match crate::state::judge(&store[a..e]) {
         BlockState::Blank => Step { byte: 0, kept },
         BlockState::SumWrong => Step { byte: 2, kept },

@@ -1,2 +1,3 @@
-pub mod Move
+pub mod MoveLaws
 pub mod Change
+pub mod ChangeLaws

@@ -2,10 +2,11 @@
 ghost use mathlib.Core.Path.{_≡_};
 ghost use Prim.Native.Nat.{_+_, _-_, _≤_, _<_};
 ghost use lib.ListN.{length, take, drop};
-ghost use Rattle.store_block.specs.Written.{over};
+ghost use Rattle.store_block.specs.Over.{over};
 ghost use Rattle.store_layout.specs.Store.{blocksIn, bytesOf, entriesOf, Good};
-ghost use Rattle.store_layout.specs.StoreLaws.{removeAt};
+ghost use Rattle.store_layout.specs.Splices.{removeAt};
 ghost use Rattle.store_layout.specs.Entries.{deleteAnswer, deleteStore};
+use store_block::offsets::BLOCK_BYTES;
 use store_find::find;
 use store_layout::DeleteAnswer;
 use store_layout::Found;
@@ -18,7 +19,7 @@ fn move_down(store: &mut [u8], a: usize, e: usize)
 {
     let mut j = a;
     while j < e {
-        store[j] = store[j + 512];
+        store[j] = store[j + BLOCK_BYTES];
         j += 1;
     }
 }
@@ -28,10 +29,10 @@ fn remove(store: &mut [u8], i: usize)
     requires { ⌜ Good (now store) × (i < length (entriesOf (now store))) ⌝ }
     ensures { λ _. ⌜ now (store .exit) ≡ bytesOf (blocksIn (now (store .entry))) (removeAt i (entriesOf (now (store .entry)))) ⌝ }
 {
-    let last = count(store) * 512 - 512;
-    let a = i * 512;
+    let last = count(store) * BLOCK_BYTES - BLOCK_BYTES;
+    let a = i * BLOCK_BYTES;
     move_down(store, a, last);
-    store_block::clear(store, last, 512);
+    store_block::clear(store, last, BLOCK_BYTES);
 }
 
 // Removes the entry under a key; its room is used again.

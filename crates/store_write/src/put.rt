@@ -4,10 +4,11 @@ ghost use Prim.Native.Nat.{_+_, _-_, _≤_};
 ghost use lib.ListN.{length, take, drop};
 ghost use Rattle.store_block.specs.Entry.{entry, Sized};
 ghost use Rattle.store_block.specs.Block.{BlockGood, decode};
-ghost use Rattle.store_block.specs.Written.{over};
+ghost use Rattle.store_block.specs.Over.{over};
 ghost use Rattle.store_layout.specs.Store.{entriesOf, Good};
 ghost use Rattle.store_layout.specs.Entries.{putAnswer, putStore};
 ghost use Rattle.store_write.specs.Change.{insertAnswer, insertStore};
+use store_block::offsets::BLOCK_BYTES;
 use store_find::find;
 use store_layout::Found;
 use store_layout::PutAnswer;
@@ -21,7 +22,7 @@ fn move_up(store: &mut [u8], a: usize, e: usize)
     let mut j = e;
     while a < j {
         j -= 1;
-        store[j + 512] = store[j];
+        store[j + BLOCK_BYTES] = store[j];
     }
 }
 
@@ -31,11 +32,11 @@ fn insert(store: &mut [u8], i: usize, b: &[u8]) -> PutAnswer
     ensures { λ r. ⌜ r ≡ insertAnswer (now (store .entry)) ⌝ }
     ensures { λ r. ⌜ now (store .exit) ≡ insertStore (now (store .entry)) i (decode (now (b .entry))) ⌝ }
 {
-    let end = count(store) * 512;
+    let end = count(store) * BLOCK_BYTES;
     if store.len() <= end {
         return PutAnswer::Full;
     }
-    let a = i * 512;
+    let a = i * BLOCK_BYTES;
     move_up(store, a, end);
     store_block::copy(store, a, b);
     PutAnswer::Stored
@@ -52,7 +53,8 @@ pub fn put(
 ) -> PutAnswer
     requires { ⌜ Good (now store) × Sized (entry (now key) (now version) (now tag) (now value) algorithm) ⌝ }
     ensures { λ r. ⌜ r ≡ putAnswer (now (store .entry)) (entry (now (key .entry)) (now (version .entry)) (now (tag .entry)) (now (value .entry)) algorithm) ⌝ }
-    ensures { λ r. ⌜ now (store .exit) ≡ putStore (now (store .entry)) (entry (now (key .entry)) (now (version .entry)) (now (tag .entry)) (now (value .entry)) algorithm) ⌝ }
+    ensures { λ r. ⌜ now (store .exit) ≡ putStore (now (store .entry))
+        (entry (now (key .entry)) (now (version .entry)) (now (tag .entry)) (now (value .entry)) algorithm) ⌝ }
 {
     let b = store_block_codec::make::make(key, version, tag, value, algorithm);
     if !store_block_codec::rules::good(&b) {
@@ -60,7 +62,7 @@ pub fn put(
     }
     match find(store, key) {
         Found::At(i) => {
-            let a = i * 512;
+            let a = i * BLOCK_BYTES;
             store_block::copy(store, a, &b);
             PutAnswer::Stored
         }

@@ -1,7 +1,8 @@
 use native.Mathlib.Omega.{arith}
-use Rattle.access_record.specs.Record.{wordBytes, halfBytes, aclHead}
-use Rattle.access_table_write.specs.Written.{word-next}
-use Rattle.access_record_bytes.specs.Wrote.{_then_}
+use Rattle.base_definitions.specs.BigEndian.{be32}
+use Rattle.access_record.specs.Record.{wordBytes, aclHead}
+use Rattle.access_table_write.specs.WrittenLaws.{word-next}
+use Rattle.access_record_bytes.specs.WroteLaws.{_then_}
 use borrow.Author.Needs.{needs}
 use Rattle.access_acl_write.proofs.put_acl.Statement.{statement}
 use Rattle.access_acl_write.proofs.put_acl.Tie as tie
@@ -32,7 +33,7 @@ same-length : tie.Need-same-length
 same-length c = search needs
 
 returns : tie.Need-returns
-unfolding aclHead wordBytes halfBytes
+unfolding aclHead wordBytes be32
 returns c = (c .before .before .before .before .before .before .before .before .before .before .before .put-word .ensures then c .before .before .before .before .before .before .put-bytes .ensures) then c .before .before .put-filled .ensures
 
 pub put-acl-spec : {M : Type 1} → statement M

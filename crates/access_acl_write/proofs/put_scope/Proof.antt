@@ -2,8 +2,9 @@ use Prim.Native.Nat.{ℕ, _/_, _%_}
 use mathlib.Core.Path.{ap}
 use mathlib.Core.List.{_∷_}
 use lib.ListN.{length}
-use Rattle.access_record.specs.Record.{fill, scopeBytes}
-use Rattle.access_record_bytes.specs.Wrote.{renamed, _then_}
+use Rattle.base_definitions.specs.Lists.{fill}
+use Rattle.access_record.specs.Record.{scopeBytes}
+use Rattle.access_record_bytes.specs.WroteLaws.{renamed, _then_}
 use borrow.Author.Needs.{needs}
 use Rattle.access_acl_write.proofs.put_scope.Statement.{statement}
 use Rattle.access_acl_write.proofs.put_scope.Tie as tie

@@ -1,6 +1,6 @@
 use mathlib.Core.Path.{_∙_, sym}
 use borrow.Author.Tests.{lt-leb, le-leb}
-use Rattle.access_record.specs.Laws.{acl-test}
+use Rattle.access_record.specs.TableLaws.{acl-test}
 use borrow.Author.Needs.{needs}
 use Rattle.access_check.proofs.acl_good.Statement.{statement}
 use Rattle.access_check.proofs.acl_good.Tie as tie
@@ -11,28 +11,28 @@ add-k c = search needs
 element-copy-out-k : tie.Need-element-copy-out-k
 element-copy-out-k c = search needs
 
-add-count : tie.Need-add-count
-add-count c = search needs
+add-wide : tie.Need-add-wide
+add-wide c = search needs
 
-element-copy-out-count : tie.Need-element-copy-out-count
-element-copy-out-count c = search needs
+element-copy-out-wide : tie.Need-element-copy-out-wide
+element-copy-out-wide c = search needs
 
-count-requires : tie.Need-count-requires
-count-requires c κs = search needs
+wide-requires : tie.Need-wide-requires
+wide-requires c κs = search needs
 
 returns : tie.Need-returns
-returns c = sym (acl-test _ _ (c .before .count .ensures .0) ∙ simp (lt-leb _ _ (c .if1 .taken)))
+returns c = sym (acl-test _ _ (c .before .wide .ensures .0) ∙ simp (lt-leb _ _ (c .if1 .taken)))
 
 returns-2 : tie.Need-returns-2
-returns-2 c = sym (acl-test _ _ (c .before .before .count .ensures .0) ∙ simp (le-leb _ _ (c .before .if1 .left), lt-leb _ _ (c .if2 .taken)))
+returns-2 c = sym (acl-test _ _ (c .before .before .wide .ensures .0) ∙ simp (le-leb _ _ (c .before .if1 .left), lt-leb _ _ (c .if2 .taken)))
 
 returns-3 : tie.Need-returns-3
-returns-3 c = sym (acl-test _ _ (c .before .before .before .count .ensures .0) ∙ simp (le-leb _ _ (c .before .before .if1 .left), le-leb _ _ (c .before .if2 .left), lt-leb _ _ (c .if3 .taken)))
+returns-3 c = sym (acl-test _ _ (c .before .before .before .wide .ensures .0) ∙ simp (le-leb _ _ (c .before .before .if1 .left), le-leb _ _ (c .before .if2 .left), lt-leb _ _ (c .if3 .taken)))
 
 returns-4 : tie.Need-returns-4
 returns-4 c =
     sym
-    (acl-test _ _ (c .before .before .before .before .count .ensures .0)
+    (acl-test _ _ (c .before .before .before .before .wide .ensures .0)
     ∙ simp (le-leb _ _ (c .before .before .before .if1 .left), le-leb _ _ (c .before .before .if2 .left), le-leb _ _ (c .before .if3 .left), lt-leb _ _ (c .if4 .taken)))
 
 add-scopes-good : tie.Need-add-scopes-good
@@ -46,7 +46,7 @@ returns-5 c =
     let d = c .before in
     c .scopes-good .ensures
     ∙ sym
-    (acl-test _ _ (d .before .before .before .before .count .ensures .0)
+    (acl-test _ _ (d .before .before .before .before .wide .ensures .0)
     ∙ simp (le-leb _ _ (d .before .before .before .if1 .left), le-leb _ _ (d .before .before .if2 .left), le-leb _ _ (d .before .if3 .left), le-leb _ _ (d .if4 .left)))
 
 pub acl-good-spec : {M : Type 1} → statement M
@@ -55,9 +55,9 @@ acl-good-spec =
     (tie.spec
     add-k
     element-copy-out-k
-    add-count
-    element-copy-out-count
-    count-requires
+    add-wide
+    element-copy-out-wide
+    wide-requires
     returns
     returns-2
     returns-3

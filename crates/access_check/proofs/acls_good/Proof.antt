@@ -3,7 +3,8 @@ use mathlib.Core.Path.{_≡_, _∙_, sym, refl, ap}
 use borrow.Author.Tests.{not-true, not-false}
 use Rattle.access_record.specs.Table.{aclsGood, isNobody, findFrom}
 use Rattle.access_record.specs.Record.{aclsAt, wordAt}
-use Rattle.access_record.specs.Laws.{stops, goes, acls-test, acls-end, others}
+use Rattle.access_record.specs.TableLaws.{stops, goes, acls-test, acls-end}
+use Rattle.access_record.specs.Places.{others}
 use borrow.Author.Needs.{needs}
 use Rattle.access_check.proofs.acls_good.Statement.{statement}
 use Rattle.access_check.proofs.acls_good.Tie as tie

@@ -2,9 +2,10 @@ use Prim.Native.Nat.{_+_, _*_, _≤_}
 use mathlib.Core.Path.{_≡_, _∙_, sym, refl}
 use native.Mathlib.Omega.{arith}
 use borrow.Author.Tests.{not-true, not-false}
-use Rattle.access_record.specs.Table.{all, scopeGood}
+use Rattle.base_definitions.specs.Lists.{all}
+use Rattle.access_record.specs.Table.{scopeGood}
 use Rattle.access_record.specs.Record.{scopesAt}
-use Rattle.access_record.specs.Laws.{stops, goes, scopes-test, scopes-end}
+use Rattle.access_record.specs.TableLaws.{stops, goes, scopes-test, scopes-end}
 use borrow.Author.Needs.{needs}
 use Rattle.access_check.proofs.scopes_good.Statement.{statement}
 use Rattle.access_check.proofs.scopes_good.Tie as tie

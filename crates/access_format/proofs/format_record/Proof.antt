@@ -3,7 +3,7 @@ use mathlib.Core.Path.{_∙_, ap}
 use mathlib.Core.List.{List}
 use Rattle.access_record.specs.Table.{everyScope}
 use Rattle.access_table_write.specs.Write.{putAcl, putScope}
-use Rattle.access_table_write.specs.Written.{host-written}
+use Rattle.access_table_write.specs.WrittenLaws.{host-written}
 use borrow.Author.Needs.{needs}
 use Rattle.access_format.proofs.format_record.Statement.{statement}
 use Rattle.access_format.proofs.format_record.Tie as tie

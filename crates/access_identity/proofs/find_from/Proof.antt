@@ -3,7 +3,7 @@ use mathlib.Core.Path.{_≡_, _∙_, sym, refl}
 use native.Mathlib.Omega.{arith}
 use Rattle.access_record.specs.Table.{findFrom}
 use Rattle.access_record.specs.Record.{aclsAt}
-use Rattle.access_record.specs.Laws.{find-yes, find-no, find-end}
+use Rattle.access_record.specs.TableLaws.{find-yes, find-no, find-end}
 use borrow.Author.Needs.{needs}
 use Rattle.access_identity.proofs.find_from.Statement.{statement}
 use Rattle.access_identity.proofs.find_from.Tie as tie

@@ -3,25 +3,25 @@ use mathlib.Core.Path.{_∙_, ap}
 use native.Mathlib.Omega.{arith}
 use Rattle.access_record.specs.Table.{findFrom, placeOf}
 use Rattle.access_record.specs.Record.{aclsAt, tableOf}
-use Rattle.access_record.specs.Laws.{table-count}
+use Rattle.access_record.specs.TableLaws.{table-count}
 use borrow.Author.Needs.{needs}
 use Rattle.access_identity.proofs.find_identity.Statement.{statement}
 use Rattle.access_identity.proofs.find_identity.Tie as tie
 
-element-copy-out-count : tie.Need-element-copy-out-count
-element-copy-out-count c = search needs
+element-copy-out-wide : tie.Need-element-copy-out-wide
+element-copy-out-wide c = search needs
 
-count-requires : tie.Need-count-requires
-count-requires c κs = search needs
+wide-requires : tie.Need-wide-requires
+wide-requires c κs = search needs
 
 find-from-requires : tie.Need-find-from-requires
-find-from-requires c κs = let e = c .count .ensures .0 in let h = table-count _ (c .before .before .pre) in (omega arith, omega arith)
+find-from-requires c κs = let e = c .wide .ensures .0 in let h = table-count _ (c .before .before .pre) in (omega arith, omega arith)
 
 returns : tie.Need-returns
 unfolding placeOf tableOf
 returns c =
     c .find-from .ensures
-    ∙ ap (λ (n : ℕ). findFrom 0 (c .before .before .before .args .identity) (aclsAt (c .before .before .before .args .device .now) 16 n)) (c .before .count .ensures .0)
+    ∙ ap (λ (n : ℕ). findFrom 0 (c .before .before .before .args .identity) (aclsAt (c .before .before .before .args .device .now) 16 n)) (c .before .wide .ensures .0)
 
 pub find-identity-spec : {M : Type 1} → statement M
-find-identity-spec = tie.close (tie.spec element-copy-out-count count-requires find-from-requires returns)
+find-identity-spec = tie.close (tie.spec element-copy-out-wide wide-requires find-from-requires returns)

@@ -1,7 +1,7 @@
 use Prim.Native.Nat.{ℕ, _+_}
 use mathlib.Core.Path.{_∙_, ap}
 use native.Mathlib.Omega.{arith}
-use Rattle.access_record.specs.Bits.{with-below, shifted, kept, grown}
+use Rattle.base_definitions.specs.BitsLaws.{with-below, shifted, kept, grown}
 use borrow.Author.Needs.{needs}
 use Rattle.access_permission_set.proofs.with_bit.Statement.{statement}
 use Rattle.access_permission_set.proofs.with_bit.Tie as tie

@@ -4,7 +4,8 @@ use native.Mathlib.Nat.{le-antisymm}
 use mathlib.Core.Path.{_≡_, _∙_, ap}
 use lib.ListN.{length, take}
 use lib.Seq.{take-length}
-use Rattle.access_record_bytes.specs.Wrote.{Wrote, wrote-start, wrote-more, renamed}
+use Rattle.access_record_bytes.specs.Wrote.{Wrote}
+use Rattle.access_record_bytes.specs.WroteLaws.{wrote-start, wrote-more, renamed}
 use Rattle.access_record_bytes.proofs.put_bytes.Statement.{statement}
 use Rattle.access_record_bytes.proofs.put_bytes.Tie as tie
 

@@ -1,5 +1,5 @@
-use Rattle.access_record.specs.Record.{fill}
-use Rattle.access_record_bytes.specs.Wrote.{_then_}
+use Rattle.base_definitions.specs.Lists.{fill}
+use Rattle.access_record_bytes.specs.WroteLaws.{_then_}
 use borrow.Author.Needs.{needs}
 use Rattle.access_record_bytes.proofs.put_filled.Statement.{statement}
 use Rattle.access_record_bytes.proofs.put_filled.Tie as tie

@@ -1,4 +1,4 @@
-use Rattle.access_record_bytes.specs.Wrote.{renamed}
+use Rattle.access_record_bytes.specs.WroteLaws.{renamed}
 use borrow.Author.Needs.{needs}
 use Rattle.access_record_bytes.proofs.put_word.Statement.{statement}
 use Rattle.access_record_bytes.proofs.put_word.Tie as tie

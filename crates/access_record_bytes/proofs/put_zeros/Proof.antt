@@ -3,7 +3,8 @@ use native.Mathlib.Omega.{arith}
 use native.Mathlib.Nat.{le-antisymm}
 use mathlib.Core.Path.{ap}
 use lib.ListN.{replicate}
-use Rattle.access_record_bytes.specs.Wrote.{Wrote, wrote-start, wrote-zero, renamed}
+use Rattle.access_record_bytes.specs.Wrote.{Wrote}
+use Rattle.access_record_bytes.specs.WroteLaws.{wrote-start, wrote-zero, renamed}
 use Rattle.access_record_bytes.proofs.put_zeros.Statement.{statement}
 use Rattle.access_record_bytes.proofs.put_zeros.Tie as tie
 

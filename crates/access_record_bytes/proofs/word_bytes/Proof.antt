@@ -1,5 +1,6 @@
 use mathlib.Core.Path.{refl}
-use Rattle.access_record.specs.Record.{wordBytes, halfBytes}
+use Rattle.base_definitions.specs.BigEndian.{be32}
+use Rattle.access_record.specs.Record.{wordBytes}
 use borrow.Author.Needs.{needs}
 use Rattle.access_record_bytes.proofs.word_bytes.Statement.{statement}
 use Rattle.access_record_bytes.proofs.word_bytes.Tie as tie
@@ -29,7 +30,7 @@ cast-t23 : tie.Need-cast-t23
 cast-t23 c = search needs
 
 returns : tie.Need-returns
-unfolding wordBytes halfBytes
+unfolding wordBytes be32
 returns c = refl
 
 pub word-bytes-spec : {M : Type 1} → statement M

@@ -3,9 +3,10 @@ use mathlib.Core.Path.{_≡_, _∙_, sym}
 use native.Mathlib.Omega.{arith}
 use borrow.Author.Tests.{eq-eqb, ne-eqb}
 use Rattle.access_record.specs.Record.{bytesAt}
-use Rattle.access_record.specs.Laws.{stops, goes}
+use Rattle.access_record.specs.TableLaws.{stops, goes}
 use Rattle.access_permission.specs.Permission.{fitsAt}
-use Rattle.access_scope.specs.Laws.{runs, fits-runs, runs-turn, runs-short, runs-end}
+use Rattle.access_scope.specs.Runs.{runs}
+use Rattle.access_scope.specs.ScopeLaws.{fits-runs, runs-turn, runs-short, runs-end}
 use borrow.Author.Needs.{needs}
 use Rattle.access_scope.proofs.fits_at.Statement.{statement}
 use Rattle.access_scope.proofs.fits_at.Tie as tie

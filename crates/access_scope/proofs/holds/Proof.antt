@@ -1,4 +1,4 @@
-use Rattle.access_record.specs.Table.{bit}
+use Rattle.base_definitions.specs.Bits.{bit}
 use borrow.Author.Needs.{needs}
 use Rattle.access_scope.proofs.holds.Statement.{statement}
 use Rattle.access_scope.proofs.holds.Tie as tie

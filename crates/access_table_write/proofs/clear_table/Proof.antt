@@ -1,7 +1,7 @@
 use mathlib.Core.Path.{_∙_, sym}
 use native.Mathlib.Omega.{arith}
-use Rattle.access_record_bytes.specs.Wrote.{_then_, wrote-whole}
-use Rattle.access_table_write.specs.Written.{word-next, length-empty, empty-made}
+use Rattle.access_record_bytes.specs.WroteLaws.{_then_, wrote-whole}
+use Rattle.access_table_write.specs.WrittenLaws.{word-next, length-empty, empty-made}
 use borrow.Author.Needs.{needs}
 use Rattle.access_table_write.proofs.clear_table.Statement.{statement}
 use Rattle.access_table_write.proofs.clear_table.Tie as tie

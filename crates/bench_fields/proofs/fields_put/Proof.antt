@@ -1,5 +1,5 @@
+use mathlib.Core.Bool.{cond}
 use mathlib.Core.Path.{ap, _∙_}
-use Rattle.fields_wire.specs.Reader.{choose}
 use borrow.Author.Needs.{needs}
 use Rattle.bench_fields.proofs.fields_put.Statement.{statement}
 use Rattle.bench_fields.proofs.fields_put.Tie as tie
@@ -14,7 +14,7 @@ answer-requires : tie.Need-answer-requires
 answer-requires c κs = search needs
 
 returns : tie.Need-returns
-returns c = c .answer .ensures ∙ ap (λ t. choose t 0 1) (c .before .before .reads .ensures)
+returns c = c .answer .ensures ∙ ap (λ t. cond t 0 1) (c .before .before .reads .ensures)
 
 pub fields-put-spec : {M : Type 1} → statement M
 fields-put-spec = tie.close (tie.spec reads-requires values-requires answer-requires returns)

@@ -2,9 +2,8 @@ use denote.Ref.{now}
 use mathlib.Core.Path.{_≡_, refl, ap, _∙_}
 use mathlib.Core.List.{List}
 use mathlib.Core.Option.{Option, none, some}
-use mathlib.Core.Bool.{Bool, true, false}
+use mathlib.Core.Bool.{Bool, true, false, cond}
 use Prim.Native.Nat.{ℕ}
-use Rattle.fields_wire.specs.Reader.{choose}
 use Rattle.fields_schema.specs.Tree.{guard, isSome, mapO}
 use Rattle.protocol.specs.Command.{commandOf}
 use Rattle.protocol.specs.Reading.{decodes}
@@ -38,7 +37,7 @@ returns : tie.Need-returns
 returns c =
     let x = c .before .before .read-request in
     let s = now (c .before .before .before .before .args .s) in
-    c .answer .ensures ∙ ap (λ t. choose t 0 1) (reads-ok s (x .result) (x .ensures .0))
+    c .answer .ensures ∙ ap (λ t. cond t 0 1) (reads-ok s (x .result) (x .ensures .0))
 
 pub fields-request-spec : {M : Type 1} → statement M
 fields-request-spec = tie.close (tie.spec read-request-requires asked-requires answer-requires returns)

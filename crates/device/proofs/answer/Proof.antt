@@ -4,15 +4,15 @@ use mathlib.Core.Bool.{true}
 use lib.ListN.{length}
 use borrow.Author.Tests.{lt-ltb, le-ltb, not-true, not-false}
 use Rattle.store_layout.specs.Store.{storeGood}
-use Rattle.store_layout.specs.Check.{store-decides}
+use Rattle.store_layout.specs.CheckLaws.{store-decides}
 use Rattle.access_record.specs.Table.{tableGood}
 use Rattle.access_record.specs.Record.{tableOf}
 use Rattle.protocol.specs.State.{State, lent}
-use Rattle.protocol_connection.specs.Means.{connectionOf}
+use Rattle.protocol_connection.specs.ConnectionOf.{connectionOf}
 use Rattle.protocol.specs.Box.{box}
-use Rattle.protocol.specs.CallRefusals.{out-short, store-bad, device-bad, closed-before, not-refused}
-use Rattle.device_response.specs.Means.{afterwards}
-use Rattle.device_response.specs.Laws.{told-out-short, told-store-bad, told-device-bad, told-closed}
+use Rattle.protocol.specs.CallRefusalLaws.{out-short, store-bad, device-bad, closed-before, not-refused}
+use Rattle.device_response.specs.Called.{afterwards}
+use Rattle.device_response.specs.CalledLaws.{told-out-short, told-store-bad, told-device-bad, told-closed}
 use borrow.Author.Needs.{needs}
 use Rattle.device.proofs.answer.Statement.{statement}
 use Rattle.device.proofs.answer.Tie as tie
@@ -61,8 +61,8 @@ returns-4 c =
     let z = c .before .before .before .before .before .before .before .before .before .before .before .before in
     told-closed (state z) (now (z .args .out)) (now (z .args .input)) (closed-before box (state z) (length (now (z .args .out))) (now (z .args .input)) (le-ltb _ _ (c .before .before .before .before .before .before .before .if1 .left)) (sound (c .before .before .before .before)) (right (c .before)) (c .if4 .taken))
 
-serve-requires : tie.Need-serve-requires
-serve-requires c κs = (c .before .before .before .before .before .before .before .before .before .before .if1 .left, store-decides (now (c .before .before .before .before .before .before .before .before .before .before .before .before .before .before .before .args .store)) .yes (sound (c .before .before .before .before .before .before .before)), right (c .before .before .before .before))
+answer-frame-requires : tie.Need-answer-frame-requires
+answer-frame-requires c κs = (c .before .before .before .before .before .before .before .before .before .before .if1 .left, store-decides (now (c .before .before .before .before .before .before .before .before .before .before .before .before .before .before .before .args .store)) .yes (sound (c .before .before .before .before .before .before .before)), right (c .before .before .before .before))
 
 same-length-4 : tie.Need-same-length-4
 same-length-4 c = search needs
@@ -73,7 +73,7 @@ same-length-5 c = search needs
 returns-5 : tie.Need-returns-5
 returns-5 c =
     let z = c .before .before .before .before .before .before .before .before .before .before .before .before .before .before .before .before .before .before .before .before in
-    c .before .before .before .before .serve .ensures
+    c .before .before .before .before .answer-frame .ensures
     ∙ ap (afterwards (state z) (now (z .args .out))) (sym (not-refused box (state z) (length (now (z .args .out))) (now (z .args .input)) (le-ltb _ _ (c .before .before .before .before .before .before .before .before .before .before .before .before .before .before .before .if1 .left)) (sound (c .before .before .before .before .before .before .before .before .before .before .before .before)) (right (c .before .before .before .before .before .before .before .before .before)) (c .before .before .before .before .before .before .before .before .if4 .left)))
 
 pub answer-spec : {M : Type 1} → statement M
@@ -89,7 +89,7 @@ answer-spec =
     returns-3
     same-length-3
     returns-4
-    serve-requires
+    answer-frame-requires
     same-length-4
     same-length-5
     returns-5)

@@ -2,7 +2,7 @@ use denote.Ref.{now}
 use mathlib.Core.Path.{ap, _∙_}
 use native.Mathlib.Omega.{arith}
 use lib.ListN.{length}
-use Rattle.device_message.specs.Steps.{key-short, copied}
+use Rattle.device_message.specs.MessageLaws.{key-short, copied}
 use borrow.Author.Needs.{needs}
 use Rattle.device_message.proofs.copy_key.Statement.{statement}
 use Rattle.device_message.proofs.copy_key.Tie as tie
@@ -14,7 +14,7 @@ copy-requires : tie.Need-copy-requires
 copy-requires c κs =
     let a = c .before .before .before .args in
     let e = ap length (c .key-of .ensures) in
-    let k = key-short (now (a .device)) (a .place) (c .before .before .before .pre .0) in
+    let k = key-short (now (a .device)) (a .acl) (c .before .before .before .pre .0) in
     let l = c .before .before .before .pre .1 in
     omega arith
 
@@ -24,7 +24,7 @@ same-length c = search needs
 returns : tie.Need-returns
 returns c =
     let a = c .before .before .before .before .before .before .args in
-    let k = key-short (now (a .device)) (a .place) (c .before .before .before .before .before .before .pre .0) in
+    let k = key-short (now (a .device)) (a .acl) (c .before .before .before .before .before .before .pre .0) in
     let e = c .before .before .before .key-of .ensures in
     let f = c .before .before .copy .ensures in
     let g = ap length e in

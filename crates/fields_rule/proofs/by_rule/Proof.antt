@@ -1,19 +1,19 @@
 use mathlib.Core.Path.{_≡_, sym, ap, _∙_}
-use mathlib.Core.Bool.{Bool}
+use mathlib.Core.Bool.{Bool, cond}
 use Prim.Native.Nat.{ℕ, _<_}
-use Rattle.fields_wire.specs.Reader.{choose}
 use Rattle.fields_schema.specs.declared.Form.{Form}
 use Rattle.fields_schema.specs.declared.Rule.{Rule}
 use Rattle.fields_schema.specs.declared.Rule.the-variants.{Once}
-use Rattle.fields_rule.specs.Judged.{bit, isSingle, listedBy, withMark}
+use Rattle.base_definitions.specs.Bits.{bit}
+use Rattle.fields_rule.specs.Judged.{isSingle, listedBy, withMark}
 use Rattle.fields_rule.specs.declared.Listed.the-variants.{Never, As}
 use borrow.Author.Needs.{needs}
 use Rattle.fields_rule.proofs.by_rule.Statement.{statement}
 use Rattle.fields_rule.proofs.by_rule.Tie as tie
 
 -- a singular number, marked or not
-by-mark : (r : Rule) (g : Form) (seen n : ℕ) → r ≡ Once g → (b : Bool) → b ≡ bit seen n → choose b Never (As g (withMark seen n)) ≡ listedBy r seen n
-by-mark r g seen n e b w = ap (λ (b : Bool). choose b Never (As g (withMark seen n))) w ∙ sym (ap (λ (ρ : Rule). listedBy ρ seen n) e)
+by-mark : (r : Rule) (g : Form) (seen n : ℕ) → r ≡ Once g → (b : Bool) → b ≡ bit seen n → cond b Never (As g (withMark seen n)) ≡ listedBy r seen n
+by-mark r g seen n e b w = ap (λ (b : Bool). cond b Never (As g (withMark seen n))) w ∙ sym (ap (λ (ρ : Rule). listedBy ρ seen n) e)
 
 below : (c : tie.After-known-told) → c .before .before .before .args .n < 16
 below c = let z = c .before .before .before in z .pre .1 (ap isSingle (c .before .r .given .1))
@@ -35,7 +35,7 @@ returns c =
     let m = c .before in
     let r = m .before .before in
     let a = r .before .before .args in
-    sym (ap (λ (b : Bool). choose b Never (As (r .r .given .0 .0) (withMark (a .seen) (a .n)))) (c .if1 .taken)) ∙ by-mark (a .r) _ (a .seen) (a .n) (r .r .given .1) (m .marked .result) (m .marked .ensures)
+    sym (ap (λ (b : Bool). cond b Never (As (r .r .given .0 .0) (withMark (a .seen) (a .n)))) (c .if1 .taken)) ∙ by-mark (a .r) _ (a .seen) (a .n) (r .r .given .1) (m .marked .result) (m .marked .ensures)
 
 with-mark-requires : tie.Need-with-mark-requires
 with-mark-requires c κs = let k = c .before .before in (below k, k .before .before .before .pre .0)
@@ -62,7 +62,7 @@ returns-4 c =
     let r = m .before .before in
     let a = r .before .before .args in
     ap (As (r .r .given .0 .0)) (c .with-mark .ensures)
-    ∙ sym (ap (λ (b : Bool). choose b Never (As (r .r .given .0 .0) (withMark (a .seen) (a .n)))) (e .if1 .left))
+    ∙ sym (ap (λ (b : Bool). cond b Never (As (r .r .given .0 .0) (withMark (a .seen) (a .n)))) (e .if1 .left))
     ∙ by-mark (a .r) _ (a .seen) (a .n) (r .r .given .1) (m .marked .result) (m .marked .ensures)
 
 returns-5 : tie.Need-returns-5

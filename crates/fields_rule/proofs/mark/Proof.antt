@@ -1,5 +1,5 @@
 use native.Mathlib.Omega.{arith}
-use Rattle.fields_rule.proofs.Bits.{small-pow}
+use Rattle.base_definitions.specs.BitsLaws.{small-pow}
 use borrow.Author.Needs.{needs}
 use Rattle.fields_rule.proofs.mark.Statement.{statement}
 use Rattle.fields_rule.proofs.mark.Tie as tie

@@ -1,5 +1,5 @@
 use mathlib.Core.Path.{refl}
-use Rattle.fields_rule.specs.Judged.{bit}
+use Rattle.base_definitions.specs.Bits.{bit}
 use borrow.Author.Needs.{needs}
 use Rattle.fields_rule.proofs.marked.Statement.{statement}
 use Rattle.fields_rule.proofs.marked.Tie as tie

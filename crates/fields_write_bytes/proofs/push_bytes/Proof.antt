@@ -1,7 +1,8 @@
 use Prim.Native.Nat.{_-_}
 use native.Mathlib.Omega.{arith}
 use lib.ListN.{length}
-use Rattle.fields_write_bytes.specs.PushedLaws.{Copying, copying-none, copying-next, copying-all}
+use Rattle.fields_write_bytes.specs.Copying.{Copying}
+use Rattle.fields_write_bytes.specs.PushedLaws.{copying-none, copying-next, copying-all}
 use Rattle.fields_write_bytes.proofs.push_bytes.Statement.{statement}
 use Rattle.fields_write_bytes.proofs.push_bytes.Tie as tie
 

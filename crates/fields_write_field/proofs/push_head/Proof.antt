@@ -1,6 +1,6 @@
 use native.Mathlib.Omega.{arith}
 use Rattle.fields_write_bytes.specs.PushedLaws.{_onto_}
-use Rattle.fields_write_varint.specs.Groups.{varint-room}
+use Rattle.fields_write_varint.specs.GroupsLaws.{varint-room}
 use Rattle.fields_write_field.proofs.push_head.Statement.{statement}
 use Rattle.fields_write_field.proofs.push_head.Tie as tie
 

@@ -1,5 +1,5 @@
 use native.Mathlib.Omega.{arith}
-use Rattle.fields_write_varint.specs.Groups.{tag-room, tag-from}
+use Rattle.fields_write_varint.specs.GroupsLaws.{tag-room, tag-from}
 use Rattle.fields_write_field.proofs.push_tag.Statement.{statement}
 use Rattle.fields_write_field.proofs.push_tag.Tie as tie
 

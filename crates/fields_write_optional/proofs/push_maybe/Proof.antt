@@ -1,7 +1,7 @@
 use native.Mathlib.Omega.{arith}
 use mathlib.Core.Path.{sym}
 use Rattle.fields_write_bytes.specs.PushedLaws.{pushed-none, again}
-use Rattle.fields_write_bytes.specs.TreeParts.{maybe-nothing, maybe-number}
+use Rattle.fields_write_bytes.specs.TreePartsLaws.{maybe-nothing, maybe-number}
 use borrow.Author.Needs.{needs}
 use Rattle.fields_write_optional.proofs.push_maybe.Statement.{statement}
 use Rattle.fields_write_optional.proofs.push_maybe.Tie as tie

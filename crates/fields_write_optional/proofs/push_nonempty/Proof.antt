@@ -1,6 +1,6 @@
 use native.Mathlib.Omega.{arith}
 use Rattle.fields_write_bytes.specs.PushedLaws.{pushed-none, again}
-use Rattle.fields_write_bytes.specs.TreeParts.{empty-none, nonempty-some}
+use Rattle.fields_write_bytes.specs.TreePartsLaws.{empty-none, nonempty-some}
 use Rattle.fields_write_optional.proofs.push_nonempty.Statement.{statement}
 use Rattle.fields_write_optional.proofs.push_nonempty.Tie as tie
 

@@ -1,6 +1,6 @@
 use native.Mathlib.Omega.{arith}
 use Rattle.fields_write_bytes.specs.PushedLaws.{pushed-none, again}
-use Rattle.fields_write_bytes.specs.TreeParts.{zero-none, nonzero-some}
+use Rattle.fields_write_bytes.specs.TreePartsLaws.{zero-none, nonzero-some}
 use Rattle.fields_write_optional.proofs.push_nonzero.Statement.{statement}
 use Rattle.fields_write_optional.proofs.push_nonzero.Tie as tie
 

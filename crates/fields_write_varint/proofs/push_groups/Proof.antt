@@ -1,5 +1,6 @@
 use native.Mathlib.Omega.{arith}
-use Rattle.fields_write_varint.specs.Groups.{Grouping, group-none, group-next, group-last, group-room}
+use Rattle.fields_write_varint.specs.Groups.{Grouping}
+use Rattle.fields_write_varint.specs.GroupsLaws.{group-none, group-next, group-last, group-room}
 use Rattle.fields_write_varint.proofs.push_groups.Statement.{statement}
 use Rattle.fields_write_varint.proofs.push_groups.Tie as tie
 

@@ -1,5 +1,5 @@
 use native.Mathlib.Omega.{arith}
-use Rattle.fields_write_varint.specs.Groups.{one-room, pushed-one, varint-from}
+use Rattle.fields_write_varint.specs.GroupsLaws.{one-room, pushed-one, varint-from}
 use Rattle.fields_write_varint.proofs.push_varint.Statement.{statement}
 use Rattle.fields_write_varint.proofs.push_varint.Tie as tie
 

@@ -4,7 +4,7 @@ use mathlib.Core.Path.{_≡_, ap}
 use lib.ListN.{length}
 use Rattle.fields_wire.specs.Varint.{varintBytes}
 use Rattle.fields_wire.specs.VarintLaws.{varint-one, varint-ten}
-use Rattle.fields_write_varint.specs.Groups.{more-length}
+use Rattle.fields_write_varint.specs.GroupsLaws.{more-length}
 use Rattle.fields_write_varint.proofs.varint_len.Statement.{statement}
 use Rattle.fields_write_varint.proofs.varint_len.Tie as tie
 

@@ -1,20 +1,19 @@
 use denote.Ref.{now}
-use mathlib.Core.List.{List}
 use Rattle.access_record.specs.Table.{Acl, aclOf}
 use Rattle.access_record.specs.Record.{tableOf}
 use Rattle.protocol.specs.Command.{Body}
 use Rattle.request_command.specs.Views.{bodyView}
-use Rattle.judge_admission.specs.Admission.{faulty, forbidden, allowed}
+use Rattle.judge_admission.specs.AdmissionLaws.{faulty, forbidden, allowed}
 use Rattle.judge_admission.proofs.Keys.{end-fits, keys-cut}
 use borrow.Author.Needs.{needs}
 use Rattle.judge_admission.proofs.admit.Statement.{statement}
 use Rattle.judge_admission.proofs.admit.Tie as tie
 
 abbrev acl : tie.Start → Acl
-acl z = aclOf (tableOf (now (z .args .device))) (z .args .place)
+acl z = aclOf (tableOf (now (z .args .device))) (z .args .acl)
 
 abbrev body : tie.Start → Body
-body z = bodyView (now (z .args .s)) (z .args .b)
+body z = bodyView (now (z .args .command)) (z .args .body)
 
 body-fault-requires : tie.Need-body-fault-requires
 body-fault-requires c κs = c .before .pre .1
@@ -23,10 +22,10 @@ returns : tie.Need-returns
 returns c =
     let x = c .before in
     let z = x .before .before in
-    λ v e. faulty (acl z) (z .args .protected) (z .args .o) (body z) v (x .body-fault .ensures v e) (c .if1 .taken)
+    λ v e. faulty (acl z) (z .args .protected) (z .args .operation) (body z) v (x .body-fault .ensures v e) (c .if1 .taken)
 
 add-permitted : tie.Need-add-permitted
-add-permitted c = let z = c .before .before .before .before in end-fits (now (z .args .s)) (z .args .b .entry .key) (z .good .1 .1 .1 .1 .0 .0) (z .pre .1 .entry .key .inside)
+add-permitted c = let z = c .before .before .before .before in end-fits (now (z .args .command)) (z .args .body .entry .key) (z .good .1 .1 .1 .1 .0 .0) (z .pre .1 .entry .key .inside)
 
 sub-permitted : tie.Need-sub-permitted
 sub-permitted c = search needs
@@ -38,7 +37,7 @@ part-permitted-end : tie.Need-part-permitted-end
 part-permitted-end c = c .before .before .before .before .pre .1 .entry .key .inside
 
 add-permitted-2 : tie.Need-add-permitted-2
-add-permitted-2 c = let z = c .before .before .before .before .before .before in end-fits (now (z .args .s)) (z .args .b .range .start) (z .good .1 .1 .1 .1 .0 .0) (z .pre .1 .range .start .inside)
+add-permitted-2 c = let z = c .before .before .before .before .before .before in end-fits (now (z .args .command)) (z .args .body .range .start) (z .good .1 .1 .1 .1 .0 .0) (z .pre .1 .range .start .inside)
 
 sub-permitted-2 : tie.Need-sub-permitted-2
 sub-permitted-2 c = search needs
@@ -50,7 +49,7 @@ part-permitted-end-2 : tie.Need-part-permitted-end-2
 part-permitted-end-2 c = c .before .before .before .before .before .before .pre .1 .range .start .inside
 
 add-permitted-3 : tie.Need-add-permitted-3
-add-permitted-3 c = let z = c .before .before .before .before .before .before .before .before in end-fits (now (z .args .s)) (z .args .b .range .end) (z .good .1 .1 .1 .1 .0 .0) (z .pre .1 .range .end .inside)
+add-permitted-3 c = let z = c .before .before .before .before .before .before .before .before in end-fits (now (z .args .command)) (z .args .body .range .end) (z .good .1 .1 .1 .1 .0 .0) (z .pre .1 .range .end .inside)
 
 sub-permitted-3 : tie.Need-sub-permitted-3
 sub-permitted-3 c = search needs
@@ -70,7 +69,7 @@ returns-2 c =
     let w = y .before .before .before .before .before .before .before in
     let x = w .before in
     let z = x .before .before in
-    λ v e. forbidden (acl z) (z .args .protected) (z .args .o) (body z) v (x .body-fault .ensures v e) (w .if1 .left) (y .permitted .ensures (body z) (keys-cut (now (z .args .s)) (z .args .b) (z .pre .1))) (c .if2 .taken)
+    λ v e. forbidden (acl z) (z .args .protected) (z .args .operation) (body z) v (x .body-fault .ensures v e) (w .if1 .left) (y .permitted .ensures (body z) (keys-cut (now (z .args .command)) (z .args .body) (z .pre .1))) (c .if2 .taken)
 
 returns-3 : tie.Need-returns-3
 returns-3 c =
@@ -78,7 +77,7 @@ returns-3 c =
     let w = y .before .before .before .before .before .before .before in
     let x = w .before in
     let z = x .before .before in
-    λ v e. allowed (acl z) (z .args .protected) (z .args .o) (body z) v (x .body-fault .ensures v e) (w .if1 .left) (y .permitted .ensures (body z) (keys-cut (now (z .args .s)) (z .args .b) (z .pre .1))) (c .if2 .left)
+    λ v e. allowed (acl z) (z .args .protected) (z .args .operation) (body z) v (x .body-fault .ensures v e) (w .if1 .left) (y .permitted .ensures (body z) (keys-cut (now (z .args .command)) (z .args .body) (z .pre .1))) (c .if2 .left)
 
 pub admit-spec : {M : Type 1} → statement M
 admit-spec =

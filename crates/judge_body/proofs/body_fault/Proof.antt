@@ -45,8 +45,8 @@ fault-requires c κs = search needs
 returns : tie.Need-returns
 returns c v e =
     let b = c .before .before .before .before .before .before .before .before .before .before .before in
-    let s = now (b .args .s) in
-    let w = b .args .b in
+    let s = now (b .args .command) in
+    let w = b .args .body in
     let l = b .pre in
     let x0 = c .before .before .before .before .before .before .before .before .before in
     let x1 = c .before .before .before .before .before .before .before .before in

@@ -8,7 +8,7 @@ use Rattle.judge_body.proofs.log_right.Statement.{statement}
 use Rattle.judge_body.proofs.log_right.Tie as tie
 
 returns : tie.Need-returns
-returns c = let a = c .before .before .args in absent typesGood (a .logged) (logTypes (now (a .s))) (not-true (a .logged) (c .if1 .taken))
+returns c = let a = c .before .before .args in absent typesGood (a .logged) (logTypes (now (a .command))) (not-true (a .logged) (c .if1 .taken))
 
 log-types-requires : tie.Need-log-types-requires
 log-types-requires c κs = c .before .before .pre (not-false (c .before .before .args .logged) (c .if1 .left))
@@ -20,7 +20,7 @@ returns-2 : tie.Need-returns-2
 returns-2 c =
     let t = c .before .log-types in
     let a = c .before .before .before .before .args in
-    there typesGood (a .logged) (logTypes (now (a .s))) (not-false (a .logged) (c .before .before .if1 .left)) (c .types-good .ensures (logTypes (now (a .s))) (t .ensures))
+    there typesGood (a .logged) (logTypes (now (a .command))) (not-false (a .logged) (c .before .before .if1 .left)) (c .types-good .ensures (logTypes (now (a .command))) (t .ensures))
 
 pub log-right-spec : {M : Type 1} → statement M
 log-right-spec = tie.close (tie.spec returns log-types-requires types-good-requires returns-2)

@@ -10,7 +10,7 @@ use Rattle.judge_body.proofs.security_fault.Tie as tie
 returns : tie.Need-returns
 returns c =
     let a = c .before .before .args in
-    no-security (a .p .has) (aclsIn (now (a .s)) (a .p)) (not-true (a .p .has) (c .if1 .taken))
+    no-security (a .security .has) (aclsIn (now (a .command)) (a .security)) (not-true (a .security .has) (c .if1 .taken))
 
 security-table-requires : tie.Need-security-table-requires
 security-table-requires c κs = search needs
@@ -19,7 +19,7 @@ returns-2 : tie.Need-returns-2
 returns-2 c =
     let a = c .before .before .before .before .before .args in
     let t = c .before .security-table in
-    rules-broken (a .p .has) (aclsIn (now (a .s)) (a .p)) (not-false (a .p .has) (c .before .before .before .if1 .left))
+    rules-broken (a .security .has) (aclsIn (now (a .command)) (a .security)) (not-false (a .security .has) (c .before .before .before .if1 .left))
     (sym (t .ensures .answer) ∙ not-true (t .result) (c .if2 .taken))
 
 algorithms-good-requires : tie.Need-algorithms-good-requires
@@ -30,7 +30,7 @@ returns-3 c =
     let a = c .before .before .before .before .before .before .before .args in
     let t = c .before .before .before .security-table in
     let g = c .before .algorithms-good in
-    other-algorithm (a .p .has) (aclsIn (now (a .s)) (a .p)) (not-false (a .p .has) (c .before .before .before .before .before .if1 .left))
+    other-algorithm (a .security .has) (aclsIn (now (a .command)) (a .security)) (not-false (a .security .has) (c .before .before .before .before .before .if1 .left))
     (sym (t .ensures .answer) ∙ not-false (t .result) (c .before .before .if2 .left))
     (sym (g .ensures) ∙ not-true (g .result) (c .if3 .taken))
 
@@ -39,7 +39,7 @@ returns-4 c =
     let a = c .before .before .before .before .before .before .before .args in
     let t = c .before .before .before .security-table in
     let g = c .before .algorithms-good in
-    security-right (a .p .has) (aclsIn (now (a .s)) (a .p)) (not-false (a .p .has) (c .before .before .before .before .before .if1 .left))
+    security-right (a .security .has) (aclsIn (now (a .command)) (a .security)) (not-false (a .security .has) (c .before .before .before .before .before .if1 .left))
     (sym (t .ensures .answer) ∙ not-false (t .result) (c .before .before .if2 .left))
     (sym (g .ensures) ∙ not-false (g .result) (c .if3 .left))
 

@@ -1,5 +1,5 @@
 use borrow.Author.Tests.{le-leb, lt-leb}
-use Rattle.judge_body_rules.specs.Laws.{by-lengths}
+use Rattle.judge_body_rules.specs.BodyRuleLaws.{by-lengths}
 use Rattle.judge_body_rules.proofs.key_value_good.Statement.{statement}
 use Rattle.judge_body_rules.proofs.key_value_good.Tie as tie
 

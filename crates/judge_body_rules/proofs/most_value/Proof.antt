@@ -1,5 +1,5 @@
 use mathlib.Core.Path.{sym, ap}
-use Rattle.judge_body_rules.specs.Given.{mostValue}
+use Rattle.judge_body_rules.specs.BodyParts.{mostValue}
 use borrow.Author.Needs.{needs}
 use Rattle.judge_body_rules.proofs.most_value.Statement.{statement}
 use Rattle.judge_body_rules.proofs.most_value.Tie as tie

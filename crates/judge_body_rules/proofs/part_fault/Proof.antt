@@ -1,5 +1,5 @@
 use mathlib.Core.Path.{sym, ap}
-use Rattle.judge_body_rules.specs.Given.{partFault}
+use Rattle.judge_body_rules.specs.BodyParts.{partFault}
 use borrow.Author.Needs.{needs}
 use Rattle.judge_body_rules.proofs.part_fault.Statement.{statement}
 use Rattle.judge_body_rules.proofs.part_fault.Tie as tie

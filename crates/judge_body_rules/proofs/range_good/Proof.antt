@@ -1,5 +1,5 @@
 use borrow.Author.Tests.{le-leb, lt-leb, not-true, not-false}
-use Rattle.judge_body_rules.specs.Laws.{by-range-lengths}
+use Rattle.judge_body_rules.specs.BodyRuleLaws.{by-range-lengths}
 use Rattle.judge_body_rules.proofs.range_good.Statement.{statement}
 use Rattle.judge_body_rules.proofs.range_good.Tie as tie
 

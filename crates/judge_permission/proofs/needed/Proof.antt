@@ -1,5 +1,5 @@
 use mathlib.Core.Path.{sym, ap}
-use Rattle.judge_permission.specs.Given.{permissionOf}
+use Rattle.judge_permission.specs.PermissionOf.{permissionOf}
 use borrow.Author.Needs.{needs}
 use Rattle.judge_permission.proofs.needed.Statement.{statement}
 use Rattle.judge_permission.proofs.needed.Tie as tie

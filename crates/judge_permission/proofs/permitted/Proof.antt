@@ -5,8 +5,9 @@ use Rattle.access_record.specs.Record.{tableOf}
 use Rattle.protocol.specs.Command.{Body}
 use Rattle.protocol.specs.Judge.{permitted}
 use Rattle.judge_permission.specs.declared.Permission.{Permission}
-use Rattle.judge_permission.specs.Given.{permissionOf, Keys}
-use Rattle.judge_permission.specs.Laws.{small-key, small-any, verdict, by-needed}
+use Rattle.judge_permission.specs.PermissionOf.{permissionOf, Keys}
+use Rattle.judge_permission.specs.PermissionLaws.{small-key, small-any, by-needed}
+use Rattle.judge_permission.specs.Verdict.{verdict}
 use borrow.Author.Needs.{needs}
 use Rattle.judge_permission.proofs.permitted.Statement.{statement}
 use Rattle.judge_permission.proofs.permitted.Tie as tie
@@ -15,13 +16,13 @@ abbrev S : tie.After-needed → tie.Start
 S n = n .before .before .before .before
 
 -- what the operation needs
-need : (n : tie.After-needed) {p : Permission} → n .needed .result ≡ p → permissionOf (S n .args .o) ≡ p
+need : (n : tie.After-needed) {p : Permission} → n .needed .result ≡ p → permissionOf (S n .args .operation) ≡ p
 need n e = sym (n .needed .ensures) ∙ e
 
 by : (n : tie.After-needed) {p : Permission} {b : Body} → n .needed .result ≡ p → Keys b (now (S n .args .key)) (now (S n .args .start)) (now (S n .args .end))
-    → verdict (aclOf (tableOf (now (S n .args .device))) (S n .args .place)) (S n .args .protected) p (now (S n .args .key)) (now (S n .args .start)) (now (S n .args .end))
-    ≡ permitted (aclOf (tableOf (now (S n .args .device))) (S n .args .place)) (S n .args .protected) (S n .args .o) b
-by n e k = by-needed (aclOf (tableOf (now (S n .args .device))) (S n .args .place)) (S n .args .protected) (S n .args .o) (need n e) k
+    → verdict (aclOf (tableOf (now (S n .args .device))) (S n .args .acl)) (S n .args .protected) p (now (S n .args .key)) (now (S n .args .start)) (now (S n .args .end))
+    ≡ permitted (aclOf (tableOf (now (S n .args .device))) (S n .args .acl)) (S n .args .protected) (S n .args .operation) b
+by n e k = by-needed (aclOf (tableOf (now (S n .args .device))) (S n .args .acl)) (S n .args .protected) (S n .args .operation) (need n e) k
 
 needed-requires : tie.Need-needed-requires
 needed-requires c κs = search needs
@@ -33,7 +34,7 @@ enum-known-p : tie.Need-enum-known-p
 enum-known-p c = search needs
 
 permits-requires : tie.Need-permits-requires
-permits-requires c κs = let n = c .before .before .before in (S n .pre, small-key (S n .args .o) (c .before .p .given .0 .0) (need n (c .before .p .given .1)))
+permits-requires c κs = let n = c .before .before .before in (S n .pre, small-key (S n .args .operation) (c .before .p .given .0 .0) (need n (c .before .p .given .1)))
 
 enum-told-2 : tie.Need-enum-told-2
 enum-told-2 c = search needs
@@ -45,7 +46,7 @@ enum-known-p-2 : tie.Need-enum-known-p-2
 enum-known-p-2 c = search needs
 
 permits-any-requires : tie.Need-permits-any-requires
-permits-any-requires c κs = let n = c .before .before .before in (S n .pre, small-any (S n .args .o) (c .before .p2 .given .0 .0) (need n (c .before .p2 .given .1)))
+permits-any-requires c κs = let n = c .before .before .before in (S n .pre, small-any (S n .args .operation) (c .before .p2 .given .0 .0) (need n (c .before .p2 .given .1)))
 
 returns : tie.Need-returns
 returns c = λ b k. by (c .before .before) (c .enum-told .given .1) k

@@ -8,29 +8,29 @@ use Rattle.log_readings.proofs.good.Tie as tie
 returns : tie.Need-returns
 returns c = sym (good-test _ refl refl ∙ simp (ne-eqb _ _ (c .if1 .taken)))
 
-shared-slice-read-count : tie.Need-shared-slice-read-count
-shared-slice-read-count c = search needs
+shared-slice-read-wide : tie.Need-shared-slice-read-wide
+shared-slice-read-wide c = search needs
 
-count-requires : tie.Need-count-requires
-count-requires c κs = search needs
+wide-requires : tie.Need-wide-requires
+wide-requires c κs = search needs
 
 returns-2 : tie.Need-returns-2
 returns-2 c =
     let a = c .before in
-    sym (good-test _ (a .count .ensures .0) refl ∙ simp (eq-eqb _ _ (a .before .before .if1 .left), lt-leb _ _ (c .if2 .taken)))
+    sym (good-test _ (a .wide .ensures .0) refl ∙ simp (eq-eqb _ _ (a .before .before .if1 .left), lt-leb _ _ (c .if2 .taken)))
 
-shared-slice-read-count-2 : tie.Need-shared-slice-read-count-2
-shared-slice-read-count-2 c = search needs
+shared-slice-read-wide-2 : tie.Need-shared-slice-read-wide-2
+shared-slice-read-wide-2 c = search needs
 
-count-requires-2 : tie.Need-count-requires-2
-count-requires-2 c κs = search needs
+wide-requires-2 : tie.Need-wide-requires-2
+wide-requires-2 c κs = search needs
 
 returns-3 : tie.Need-returns-3
 returns-3 c =
     let b = c .before in
     let a = b .before .before .before in
     sym
-    (good-test _ (a .count .ensures .0) (b .count2 .ensures .0)
+    (good-test _ (a .wide .ensures .0) (b .wide2 .ensures .0)
     ∙ simp (eq-eqb _ _ (a .before .before .if1 .left), le-leb _ _ (b .before .before .if2 .left), lt-leb _ _ (c .if3 .taken)))
 
 named-requires : tie.Need-named-requires
@@ -42,7 +42,7 @@ returns-4 c =
     let b = d .before in
     let a = b .before .before .before in
     sym
-    (good-test _ (a .count .ensures .0) (b .count2 .ensures .0)
+    (good-test _ (a .wide .ensures .0) (b .wide2 .ensures .0)
     ∙ simp (eq-eqb _ _ (a .before .before .if1 .left), le-leb _ _ (b .before .before .if2 .left), le-leb _ _ (d .if3 .left), sym (c .before .named .ensures) ∙ not-true _ (c .if4 .taken)))
 
 named-requires-2 : tie.Need-named-requires-2
@@ -56,7 +56,7 @@ returns-5 c =
     let a = b .before .before .before in
     c .named2 .ensures
     ∙ sym
-    (good-test _ (a .count .ensures .0) (b .count2 .ensures .0)
+    (good-test _ (a .wide .ensures .0) (b .wide2 .ensures .0)
     ∙ simp (eq-eqb _ _ (a .before .before .if1 .left), le-leb _ _ (b .before .before .if2 .left), le-leb _ _ (d .if3 .left), sym (e .before .named .ensures) ∙ not-false _ (e .if4 .left)))
 
 pub good-spec : {M : Type 1} → statement M
@@ -64,11 +64,11 @@ good-spec =
     tie.close
     (tie.spec
     returns
-    shared-slice-read-count
-    count-requires
+    shared-slice-read-wide
+    wide-requires
     returns-2
-    shared-slice-read-count-2
-    count-requires-2
+    shared-slice-read-wide-2
+    wide-requires-2
     returns-3
     named-requires
     returns-4

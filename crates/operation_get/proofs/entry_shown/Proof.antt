@@ -1,7 +1,7 @@
 use mathlib.Core.Path.{sym, ap}
 use denote.Ref.{now}
 use Rattle.protocol.specs.Judge.{entryThere}
-use Rattle.operation_get.specs.Shows.{found-there, shown-by}
+use Rattle.operation_get.specs.ShownLaws.{found-there, shown-by}
 use borrow.Author.Needs.{needs}
 use Rattle.operation_get.proofs.entry_shown.Statement.{statement}
 use Rattle.operation_get.proofs.entry_shown.Tie as tie

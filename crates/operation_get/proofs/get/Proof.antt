@@ -1,7 +1,7 @@
 use mathlib.Core.Path.{subst}
 use denote.Ref.{now}
 use Rattle.store_layout.specs.Entries.{Sought}
-use Rattle.operation_get.specs.Shows.{found-at, missing-at}
+use Rattle.operation_get.specs.ShownLaws.{found-at, missing-at}
 use borrow.Author.Needs.{needs}
 use Rattle.operation_get.proofs.get.Statement.{statement}
 use Rattle.operation_get.proofs.get.Tie as tie

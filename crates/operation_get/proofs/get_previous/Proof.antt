@@ -1,6 +1,6 @@
 use denote.Ref.{now}
 use Rattle.store_layout.specs.Entries.{previousIn}
-use Rattle.operation_get.specs.Shows.{shown-by}
+use Rattle.operation_get.specs.ShownLaws.{shown-by}
 use borrow.Author.Needs.{needs}
 use Rattle.operation_get.proofs.get_previous.Statement.{statement}
 use Rattle.operation_get.proofs.get_previous.Tie as tie

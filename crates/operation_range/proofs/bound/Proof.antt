@@ -1,6 +1,6 @@
+use mathlib.Core.Bool.{cond}
 use mathlib.Core.Path.{sym, ap, _∙_}
 use denote.Ref.{now}
-use Rattle.fields_wire.specs.Reader.{choose}
 use Rattle.store_layout.specs.Store.{entriesOf}
 use Rattle.store_layout.specs.Entries.{below, upTo}
 use borrow.Author.Needs.{needs}
@@ -15,7 +15,7 @@ returns c =
     let s = c .before .before .before .before in
     let es = entriesOf (now (s .args .store)) in
     let k = now (s .args .key) in
-    c .first-from .ensures (s .pre) ∙ ap (λ b. choose b (below k es) (upTo k es)) (sym (c .before .if1 .taken))
+    c .first-from .ensures (s .pre) ∙ ap (λ b. cond b (below k es) (upTo k es)) (sym (c .before .if1 .taken))
 
 first-above-requires : tie.Need-first-above-requires
 first-above-requires c κs = search needs
@@ -25,7 +25,7 @@ returns-2 c =
     let s = c .before .before .before .before in
     let es = entriesOf (now (s .args .store)) in
     let k = now (s .args .key) in
-    c .first-above .ensures (s .pre) ∙ ap (λ b. choose b (below k es) (upTo k es)) (sym (c .before .if1 .left))
+    c .first-above .ensures (s .pre) ∙ ap (λ b. cond b (below k es) (upTo k es)) (sym (c .before .if1 .left))
 
 pub bound-spec : {M : Type 1} → statement M
 bound-spec = tie.close (tie.spec first-from-requires returns first-above-requires returns-2)

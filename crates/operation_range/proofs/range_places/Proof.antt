@@ -1,7 +1,7 @@
+use mathlib.Core.Bool.{cond}
 use Prim.Native.Nat.{min}
 use mathlib.Core.Path.{ap, _∙_}
 use denote.Ref.{now}
-use Rattle.fields_wire.specs.Reader.{choose}
 use Rattle.store_layout.specs.Store.{entriesOf}
 use Rattle.operation_range.specs.RangeLaws.{places-law}
 use borrow.Author.Needs.{needs}
@@ -28,13 +28,14 @@ least-requires c κs = search needs
 
 returns : tie.Need-returns
 returns c =
-    let a = c .before .before .before .before .before .before .before .before .before .args in
-    let low = c .before .before .before .before .before .bound in
+    let a = c .before .before .before .before .before .before .before .before .before .before .args in
+    let o = a .options in
+    let low = c .before .before .before .before .before .before .bound in
     let high = c .before .before .before .before .bound2 in
-    places-law (now (a .start)) (now (a .end)) (a .start-inclusive) (a .end-inclusive) (a .most) (a .reverse) (entriesOf (now (a .store))) _ (low .result) (high .result)
+    places-law (now (a .start)) (now (a .end)) (o .«start_inclusive») (o .«end_inclusive») (o .most) (o .reverse) (entriesOf (now (a .store))) _ (low .result) (high .result)
     (low .ensures) (high .ensures)
-    (c .before .before .either .ensures ∙ ap (λ h. choose (a .reverse) h (low .result)) (c .before .before .before .less .ensures))
-    (c .least .ensures ∙ ap (λ n. min (a .most) n) (c .before .less2 .ensures))
+    (c .before .before .either .ensures ∙ ap (λ h. cond (o .reverse) h (low .result)) (c .before .before .before .less .ensures))
+    (c .least .ensures ∙ ap (λ n. min (o .most) n) (c .before .less2 .ensures))
 
 pub range-places-spec : {M : Type 1} → statement M
 range-places-spec =

@@ -12,21 +12,21 @@ use borrow.Author.Needs.{needs}
 use Rattle.perform.proofs.perform.Statement.{statement}
 use Rattle.perform.proofs.perform.Tie as tie
 
-abbrev S : tie.After-shared-slice-known4 → tie.Start
-S m = m .before .before .before .before .before .before
+abbrev S : tie.After-entry → tie.Start
+S m = m .before .before .before .before .before .before .before .before
 
-abbrev T : tie.After-shared-slice-known4 → Connection → State
+abbrev T : tie.After-entry → Connection → State
 T m x = lent (now (S m .args .store)) (now (S m .args .device)) (now (S m .args .readings)) x
 
-passed : (m : tie.After-shared-slice-known4) {o : Operation} → S m .args .o ≡ o → fault o (bodyView (now (S m .args .s)) (S m .args .b)) (now (S m .args .value)) ≡ 0
-passed m e = subst (λ (o : Operation). fault o (bodyView (now (S m .args .s)) (S m .args .b)) (now (S m .args .value)) ≡ 0) e (S m .pre .4)
+passed : (m : tie.After-entry) {o : Operation} → S m .args .job .operation ≡ o → fault o (bodyView (now (S m .args .command)) (S m .args .job .body)) (now (S m .args .value)) ≡ 0
+passed m e = subst (λ (o : Operation). fault o (bodyView (now (S m .args .command)) (S m .args .job .body)) (now (S m .args .value)) ≡ 0) e (S m .pre .4)
 
 -- an arm's reply is the one that is due
-done : (m : tie.After-shared-slice-known4) (x : Connection) {o : Operation} {n : ℕ} {out' : List ℕ} {t' : State} → S m .args .o ≡ o
-    → Sent (replied (S m .args .a) (now (S m .args .by)) (step10 (T m x) o (wholeView (now (S m .args .s)) (S m .args .b)) (now (S m .args .value)))) n (now (S m .args .out)) out' t'
-    → Sent (replied (S m .args .a) (now (S m .args .by)) (step10 (T m x) (S m .args .o) (bodyView (now (S m .args .s)) (S m .args .b)) (now (S m .args .value)))) n (now (S m .args .out)) out' t'
+done : (m : tie.After-entry) (x : Connection) {o : Operation} {n : ℕ} {out' : List ℕ} {t' : State} → S m .args .job .operation ≡ o
+    → Sent (replied (S m .args .job .«reply_to») (now (S m .args .signing-key)) (step10 (T m x) o (wholeView (now (S m .args .command)) (S m .args .job .body)) (now (S m .args .value)))) n (now (S m .args .out)) out' t'
+    → Sent (replied (S m .args .job .«reply_to») (now (S m .args .signing-key)) (step10 (T m x) (S m .args .job .operation) (bodyView (now (S m .args .command)) (S m .args .job .body)) (now (S m .args .value)))) n (now (S m .args .out)) out' t'
 done m x e h =
-    let a = S m .args in performed (now (a .s)) (a .b) (now (a .value)) (a .a) (now (a .by)) (T m x) (S m .pre .4) e h
+    let a = S m .args in performed (now (a .command)) (a .job .body) (now (a .value)) (a .job .«reply_to») (now (a .signing-key)) (T m x) (S m .pre .4) e h
 
 enum-told : tie.Need-enum-told
 enum-told c = search needs
@@ -72,7 +72,7 @@ get-key-range-requires c κs =
     let e = c .before .before in
     let m = e .before .before in
     let z = S m in
-    (z .pre .0, z .pre .1, z .pre .2, z .pre .3 .range, range-short (now (z .args .s)) (z .args .b) (now (z .args .value)) (passed m (e .enum-told7 .given .1)))
+    (z .pre .0, z .pre .1, z .pre .2, z .pre .3 .range, range-short (now (z .args .command)) (z .args .job .body) (now (z .args .value)) (passed m (e .enum-told7 .given .1)))
 
 enum-told-8 : tie.Need-enum-told-8
 enum-told-8 c = search needs
@@ -82,7 +82,7 @@ put-requires c κs =
     let e = c .before .before in
     let m = e .before .before in
     let z = S m in
-    let g = put-good (now (z .args .s)) (z .args .b) (now (z .args .value)) (passed m (e .enum-told8 .given .1)) in
+    let g = put-good (now (z .args .command)) (z .args .job .body) (now (z .args .value)) (passed m (e .enum-told8 .given .1)) in
     (z .pre .0, z .pre .1, z .pre .2, z .pre .3 .entry, g .0, g .1)
 
 enum-told-9 : tie.Need-enum-told-9
@@ -105,7 +105,7 @@ get-log-requires c κs =
     let e = c .before .before in
     let m = e .before .before in
     let z = S m in
-    (z .pre .0, z .pre .1, z .pre .2, z .pre .5, z .pre .3 .log (log-there (now (z .args .s)) (z .args .b) (now (z .args .value)) (passed m (e .enum-told11 .given .1))))
+    (z .pre .0, z .pre .1, z .pre .2, z .pre .5, z .pre .3 .log (log-there (now (z .args .command)) (z .args .job .body) (now (z .args .value)) (passed m (e .enum-told11 .given .1))))
 
 enum-told-12 : tie.Need-enum-told-12
 enum-told-12 c = search needs
@@ -115,7 +115,7 @@ secure-requires c κs =
     let e = c .before .before in
     let m = e .before .before in
     let z = S m in
-    (z .pre .0, z .pre .1, record { inside = z .pre .3 .security .inside; reads = z .pre .3 .reads }, table-good (now (z .args .s)) (z .args .b) (now (z .args .value)) (passed m (e .enum-told12 .given .1)))
+    (z .pre .0, z .pre .1, record { inside = z .pre .3 .security .inside; reads = z .pre .3 .reads }, table-good (now (z .args .command)) (z .args .job .body) (now (z .args .value)) (passed m (e .enum-told12 .given .1)))
 
 same-length : tie.Need-same-length
 same-length c = search needs

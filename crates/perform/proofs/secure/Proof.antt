@@ -25,8 +25,8 @@ returns c =
     let m = c .before .before .before .before in
     let z = m .before .before .before .before .before .before .before in
     λ (t : State) (q : t .device ≡ now (z .args .device)).
-    sent-as (z .args .a) (now (z .args .by))
-    (secured (aclsIn (now (z .args .s)) (z .args .p)) (m .security-table .ensures) (z .pre .3) (m .before .before .cluster-version .ensures) t q)
+    sent-as (z .args .reply-to) (now (z .args .signing-key))
+    (secured (aclsIn (now (z .args .command)) (z .args .security)) (m .security-table .ensures) (z .pre .3) (m .before .before .cluster-version .ensures) t q)
     (c .before .before .status .ensures (withDevice t _))
 
 pub secure-spec : {M : Type 1} → statement M

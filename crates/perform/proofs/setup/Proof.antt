@@ -20,7 +20,7 @@ returns c =
     let e = c .before .before .before .before .setup in
     let z = c .before .before .before .before .before .before .before .before in
     λ (t : State) (q : t .device ≡ now (z .args .device)).
-    sent-as (z .args .a) (now (z .args .by)) (sym (e .ensures .whole t q)) (c .before .before .status .ensures (withDevice t _))
+    sent-as (z .args .reply-to) (now (z .args .signing-key)) (sym (e .ensures .whole t q)) (c .before .before .status .ensures (withDevice t _))
 
 pub setup-spec : {M : Type 1} → statement M
 setup-spec = tie.close (tie.spec setup-requires status-requires same-length returns)

@@ -3,7 +3,7 @@ use denote.Ref.{now}
 use Rattle.protocol.specs.State.{State}
 use Rattle.protocol.specs.Judge.{shown}
 use Rattle.operation_get.specs.declared.Shown.{Shown}
-use Rattle.operation_get.specs.Given.{PartsInside, entryShown}
+use Rattle.operation_get.specs.Shown.{PartsInside, entryShown}
 use Rattle.reply_send.specs.SentLaws.{sent-as}
 use borrow.Author.Needs.{needs}
 use Rattle.perform_entry.proofs.show.Statement.{statement}
@@ -35,7 +35,7 @@ returns c =
     let f = c .before .before .before .before .before in
     let z = S (f .before .before) in
     λ (s : State).
-    sent-as (z .args .a) (now (z .args .by)) (sym (ap (λ (r : Shown). shown s (z .args .metadata) (entryShown (now (z .args .store)) r)) (f .found .given .1)))
+    sent-as (z .args .reply-to) (now (z .args .signing-key)) (sym (ap (λ (r : Shown). shown s (z .args .metadata) (entryShown (now (z .args .store)) r)) (f .found .given .1)))
     (c .before .before .show-entry .ensures s)
 
 same-length-2 : tie.Need-same-length-2
@@ -46,7 +46,7 @@ returns-2 c =
     let f = c .before .before .before .before in
     let z = S (f .before .before) in
     λ (s : State).
-    sent-as (z .args .a) (now (z .args .by)) (sym (ap (λ (r : Shown). shown s (z .args .metadata) (entryShown (now (z .args .store)) r)) (f .enum-told .given .1)))
+    sent-as (z .args .reply-to) (now (z .args .signing-key)) (sym (ap (λ (r : Shown). shown s (z .args .metadata) (entryShown (now (z .args .store)) r)) (f .enum-told .given .1)))
     (c .before .before .status .ensures s)
 
 pub show-spec : {M : Type 1} → statement M

@@ -1,17 +1,14 @@
 use denote.Ref.{now}
 use native.Mathlib.Omega.{arith}
 use Rattle.protocol.specs.State.{State}
-use Rattle.perform_entry.specs.Slices.{cut-short, entry-cut}
+use Rattle.perform_entry.specs.SlicesLaws.{cut-short, entry-cut}
 use Rattle.reply_send.specs.SentLaws.{sends-as}
 use borrow.Author.Needs.{needs}
 use Rattle.perform_entry.proofs.show_entry.Statement.{statement}
 use Rattle.perform_entry.proofs.show_entry.Tie as tie
 
 abbrev S : tie.After-shown-length → tie.Start
-S c = c .before .before .before .before .before .before .before .before .before .before .before .before .before
-
-ack-requires : tie.Need-ack-requires
-ack-requires c κs = search needs
+S c = c .before .before .before .before .before .before .before .before .before .before .before .before
 
 add-put-key-value : tie.Need-add-put-key-value
 add-put-key-value c = search needs
@@ -71,7 +68,7 @@ put-key-value-requires : tie.Need-put-key-value-requires
 put-key-value-requires c κs =
     let z = S (c .before) in
     let l = now (z .args .store) in
-    let p = z .args .p in
+    let p = z .args .parts in
     let i = z .pre .2 in
     let n = c .before .shown-length in (
       cut-short l (p .key .start) (p .key .len) 64 (i .key-fits),
@@ -90,15 +87,13 @@ returns c =
     let n = c .before .before .before .before in
     let z = S n in
     λ (s : State).
-    sends-as (z .args .a) (now (z .args .by)) (entry-cut (now (z .args .store)) (z .args .p) (z .args .metadata) (n .shown-length .ensures .0) s)
-    (n .before .before .before .before .before .before .before .before .ack .ensures)
+    sends-as (z .args .reply-to) (now (z .args .signing-key)) (entry-cut (now (z .args .store)) (z .args .parts) (z .args .metadata) (n .shown-length .ensures .0) s)
     (c .before .before .put-key-value .ensures)
 
 pub show-entry-spec : {M : Type 1} → statement M
 show-entry-spec =
     tie.close
     (tie.spec
-    ack-requires
     add-put-key-value
     sub-put-key-value
     part-put-key-value-start

@@ -1,6 +1,6 @@
 use mathlib.Core.Path.{sym, subst}
 use denote.Ref.{now}
-use Rattle.operation_get.specs.Given.{Showing}
+use Rattle.operation_get.specs.Shown.{Showing}
 use Rattle.perform_get.specs.declared.Which.{Which}
 use Rattle.perform_get.specs.Sought.{sought}
 use borrow.Author.Needs.{needs}

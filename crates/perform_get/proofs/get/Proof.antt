@@ -3,7 +3,7 @@ use denote.Ref.{now}
 use Rattle.protocol.specs.State.{State}
 use Rattle.protocol.specs.Judge.{shown}
 use Rattle.perform_get.specs.Sought.{sought}
-use Rattle.perform_entry.specs.Slices.{cut-part}
+use Rattle.perform_entry.specs.SlicesLaws.{cut-part}
 use Rattle.reply_send.specs.SentLaws.{sent-as}
 use borrow.Author.Needs.{needs}
 use Rattle.perform_get.proofs.get.Statement.{statement}
@@ -38,7 +38,7 @@ returns c =
     let f = c .before .before .before .before .before in
     let z = f .before .before .before .before .before .before .before in
     λ (t : State) (q : t .store ≡ now (z .args .store)).
-    sent-as (z .args .a) (now (z .args .by))
+    sent-as (z .args .reply-to) (now (z .args .signing-key))
     (ap₂ (shown t) (c .before .before .before .flag-of .ensures) (f .find-entry .ensures .same t q ∙ ap (sought (z .args .which) t) (cut-part (z .pre .3 .key))))
     (c .before .before .show .ensures t)
 

@@ -2,7 +2,7 @@ use mathlib.Core.Path.{_≡_, ap, _∙_}
 use denote.Ref.{now}
 use Rattle.protocol.specs.State.{State}
 use Rattle.protocol.specs.Judge.{entryOf, versionShown}
-use Rattle.perform_entry.specs.Slices.{cut-part}
+use Rattle.perform_entry.specs.SlicesLaws.{cut-part}
 use Rattle.reply_send.specs.SentLaws.{sent-as}
 use borrow.Author.Needs.{needs}
 use Rattle.perform_get.proofs.get_version.Statement.{statement}
@@ -31,10 +31,10 @@ same-length c = search needs
 
 returns : tie.Need-returns
 returns c =
-    let f = c .before .before .before in
-    let z = f .before .before .before .before .before .before .before .before in
+    let f = c .before .before .before .before in
+    let z = f .before .before .before .before .before .before .before in
     λ (t : State) (q : t .store ≡ now (z .args .store)).
-    sent-as (z .args .a) (now (z .args .by)) (ap (versionShown t) (f .get .ensures .same t q ∙ ap (entryOf t) (cut-part (z .pre .3 .key)))) (c .before .before .show-version .ensures t)
+    sent-as (z .args .reply-to) (now (z .args .signing-key)) (ap (versionShown t) (f .get .ensures .same t q ∙ ap (entryOf t) (cut-part (z .pre .3 .key)))) (c .before .before .show-version .ensures t)
 
 pub get-version-spec : {M : Type 1} → statement M
 get-version-spec =

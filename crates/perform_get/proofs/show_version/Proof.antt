@@ -4,8 +4,8 @@ use native.Mathlib.Omega.{arith}
 use Rattle.protocol.specs.State.{State}
 use Rattle.protocol.specs.Judge.{versionShown}
 use Rattle.operation_get.specs.declared.Shown.{Shown}
-use Rattle.operation_get.specs.Given.{Inside, PartsInside, entryShown}
-use Rattle.perform_entry.specs.Slices.{cut-short, version-cut}
+use Rattle.operation_get.specs.Shown.{Inside, PartsInside, entryShown}
+use Rattle.perform_entry.specs.SlicesLaws.{cut-short, version-cut}
 use Rattle.reply_send.specs.SentLaws.{sent-as}
 use borrow.Author.Needs.{needs}
 use Rattle.perform_get.proofs.show_version.Statement.{statement}
@@ -26,17 +26,17 @@ enum-known-found c = search needs
 add-end : tie.Need-add-end
 add-end c = let i = inside (F c) .version in let g = S (F c .before .before) .good in omega arith
 
-sub-version : tie.Need-sub-version
-sub-version c = search needs
+sub-key-value-reply : tie.Need-sub-key-value-reply
+sub-key-value-reply c = search needs
 
-part-version-start : tie.Need-part-version-start
-part-version-start c = search needs
+part-key-value-reply-start : tie.Need-part-key-value-reply-start
+part-key-value-reply-start c = search needs
 
-part-version-end : tie.Need-part-version-end
-part-version-end c = let i = inside (F (c .before)) .version in omega arith
+part-key-value-reply-end : tie.Need-part-key-value-reply-end
+part-key-value-reply-end c = let i = inside (F (c .before)) .version in omega arith
 
-version-requires : tie.Need-version-requires
-version-requires c κs =
+key-value-reply-requires : tie.Need-key-value-reply-requires
+key-value-reply-requires c κs =
     let f = F (c .before .before) in
     let z = S (f .before .before) in
     let v = f .found .given .0 .0 .version in
@@ -57,9 +57,9 @@ returns c =
     let z = S (f .before .before) in
     let l = now (z .args .store) in
     λ (s : State).
-    sent-as (z .args .a) (now (z .args .by))
+    sent-as (z .args .reply-to) (now (z .args .signing-key))
     (version-cut l (f .found .given .0 .0) s ∙ sym (ap (λ (r : Shown). versionShown s (entryShown l r)) (f .found .given .1)))
-    (c .before .before .version .ensures s)
+    (c .before .before .key-value-reply .ensures s)
 
 same-length-2 : tie.Need-same-length-2
 same-length-2 c = search needs
@@ -69,7 +69,7 @@ returns-2 c =
     let f = c .before .before .before .before in
     let z = S (f .before .before) in
     λ (s : State).
-    sent-as (z .args .a) (now (z .args .by)) (sym (ap (λ (r : Shown). versionShown s (entryShown (now (z .args .store)) r)) (f .enum-told .given .1)))
+    sent-as (z .args .reply-to) (now (z .args .signing-key)) (sym (ap (λ (r : Shown). versionShown s (entryShown (now (z .args .store)) r)) (f .enum-told .given .1)))
     (c .before .before .status .ensures s)
 
 pub show-version-spec : {M : Type 1} → statement M
@@ -78,10 +78,10 @@ show-version-spec =
     (tie.spec
     enum-known-found
     add-end
-    sub-version
-    part-version-start
-    part-version-end
-    version-requires
+    sub-key-value-reply
+    part-key-value-reply-start
+    part-key-value-reply-end
+    key-value-reply-requires
     enum-told
     status-requires
     same-length

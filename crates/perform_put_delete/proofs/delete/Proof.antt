@@ -37,8 +37,8 @@ part-delete-end-2 c = search needs
 delete-requires : tie.Need-delete-requires
 delete-requires c κs = search needs
 
-changed-requires : tie.Need-changed-requires
-changed-requires c κs = search needs
+reply-changed-requires : tie.Need-reply-changed-requires
+reply-changed-requires c κs = search needs
 
 same-length : tie.Need-same-length
 same-length c = search needs
@@ -51,9 +51,9 @@ returns c =
     let d = c .before .before .before .before .before .before in
     let f = d .before .before .before .before .before .before in
     let z = f .before .before .before .before .before in
-    has-changed (z .args .a) (now (z .args .by))
-    (d .delete .ensures (keyValueView (now (z .args .s)) (z .args .k)) (deletes (z .pre .3) (f .flag-of .ensures)))
-    (c .before .before .changed .ensures)
+    has-changed (z .args .reply-to) (now (z .args .signing-key))
+    (d .delete .ensures (keyValueView (now (z .args .command)) (z .args .key-value)) (deletes (z .pre .3) (f .flag-of .ensures)))
+    (c .before .before .reply-changed .ensures)
 
 pub delete-spec : {M : Type 1} → statement M
 delete-spec =
@@ -69,7 +69,7 @@ delete-spec =
     part-delete-start-2
     part-delete-end-2
     delete-requires
-    changed-requires
+    reply-changed-requires
     same-length
     same-length-2
     returns)

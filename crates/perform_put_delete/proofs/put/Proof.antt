@@ -73,8 +73,8 @@ put-requires c κs =
     let z = S (n .before .before .before .before .before .before .before .before) in
     (z .pre .2, fits (z .pre .3) (n .number-or .ensures) (now (z .args .value)) (z .pre .4) (z .pre .5))
 
-changed-requires : tie.Need-changed-requires
-changed-requires c κs = let z = S (c .before .before .before .before .before .before .before .before .before .before .before .before .before) in (z .pre .0, z .pre .1)
+reply-changed-requires : tie.Need-reply-changed-requires
+reply-changed-requires c κs = let z = S (c .before .before .before .before .before .before .before .before .before .before .before .before .before) in (z .pre .0, z .pre .1)
 
 same-length : tie.Need-same-length
 same-length c = search needs
@@ -87,9 +87,9 @@ returns c =
     let f = c .before .before .before .before .before .before .before in
     let n = f .before in
     let z = S (n .before .before .before .before .before .before .before .before) in
-    has-changed (z .args .a) (now (z .args .by))
-    (c .before .before .before .before .before .before .put .ensures (keyValueView (now (z .args .s)) (z .args .k)) (puts (z .pre .3) (n .number-or .ensures) (f .flag-of .ensures)))
-    (c .before .before .changed .ensures)
+    has-changed (z .args .reply-to) (now (z .args .signing-key))
+    (c .before .before .before .before .before .before .put .ensures (keyValueView (now (z .args .command)) (z .args .key-value)) (puts (z .pre .3) (n .number-or .ensures) (f .flag-of .ensures)))
+    (c .before .before .reply-changed .ensures)
 
 pub put-spec : {M : Type 1} → statement M
 put-spec =
@@ -115,7 +115,7 @@ put-spec =
     cast-put
     flag-of-requires
     put-requires
-    changed-requires
+    reply-changed-requires
     same-length
     same-length-2
     returns)

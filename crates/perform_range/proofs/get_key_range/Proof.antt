@@ -1,14 +1,11 @@
 use mathlib.Core.Path.{_≡_}
 use denote.Ref.{now}
 use Rattle.protocol.specs.State.{State}
-use Rattle.perform_range.specs.RangeSlices.{range-cut}
+use Rattle.perform_range.specs.RangeSlicesLaws.{range-cut}
 use Rattle.reply_send.specs.SentLaws.{sends-as}
 use borrow.Author.Needs.{needs}
 use Rattle.perform_range.proofs.get_key_range.Statement.{statement}
 use Rattle.perform_range.proofs.get_key_range.Tie as tie
-
-ack-requires : tie.Need-ack-requires
-ack-requires c κs = search needs
 
 add-put-key-range : tie.Need-add-put-key-range
 add-put-key-range c = search needs
@@ -58,19 +55,16 @@ returns c =
     let n = v .before in
     let e = n .before in
     let f = e .before in
-    let k = f .before .before .before .before .before in
-    let z = k .before .before .before .before .before .before in
+    let z = f .before .before .before .before .before .before .before .before .before .before in
     λ (t : State) (q : t .store ≡ now (z .args .store)).
-    sends-as (z .args .a) (now (z .args .by))
+    sends-as (z .args .reply-to) (now (z .args .signing-key))
     (range-cut (z .pre .3) (z .pre .2) (f .flag-of .ensures) (e .flag-of2 .ensures) (n .number-or .ensures) (v .flag-of3 .ensures) t q)
-    (k .ack .ensures)
     (c .before .before .put-key-range .ensures)
 
 pub get-key-range-spec : {M : Type 1} → statement M
 get-key-range-spec =
     tie.close
     (tie.spec
-    ack-requires
     add-put-key-range
     sub-put-key-range
     part-put-key-range-start

@@ -1,6 +1,7 @@
 use mathlib.Core.Path.{_∙_, sym, subst}
 use borrow.Author.Tests.{not-false}
-use Rattle.log_readings.specs.LentLaws.{Places, temperatures-placed, utilizations-placed}
+use Rattle.log_readings.specs.Places.{Places}
+use Rattle.log_readings.specs.LentLaws.{temperatures-placed, utilizations-placed}
 use borrow.Author.Needs.{needs}
 use Rattle.program_readings.proofs.area.Statement.{statement}
 use Rattle.program_readings.proofs.area.Tie as tie

@@ -1,7 +1,7 @@
 use mathlib.Core.Path.{_∙_, sym}
 use borrow.Author.Tests.{not-false}
 use Rattle.store_layout.specs.Store.{Good}
-use Rattle.store_layout.specs.Check.{store-decides}
+use Rattle.store_layout.specs.CheckLaws.{store-decides}
 use borrow.Author.Needs.{needs}
 use Rattle.program_store.proofs.delete_key.Statement.{statement}
 use Rattle.program_store.proofs.delete_key.Tie as tie

@@ -5,7 +5,7 @@ use mathlib.Core.List.{List}
 use borrow.Author.Tests.{not-false}
 use lib.ListN.{length, take, length-take}
 use Rattle.store_layout.specs.Store.{Good}
-use Rattle.store_layout.specs.Check.{store-decides}
+use Rattle.store_layout.specs.CheckLaws.{store-decides}
 use borrow.Author.Needs.{needs}
 use Rattle.program_store.proofs.put_parts.Statement.{statement}
 use Rattle.program_store.proofs.put_parts.Tie as tie

@@ -1,5 +1,5 @@
 use native.Mathlib.Omega.{arith}
-use Rattle.reply_command.specs.Parts.{connection-law}
+use Rattle.reply_command.specs.PartsLaws.{connection-law}
 use borrow.Author.Needs.{needs}
 use Rattle.reply_closing.proofs.push_connection.Statement.{statement}
 use Rattle.reply_closing.proofs.push_connection.Tie as tie

@@ -1,6 +1,6 @@
 use native.Mathlib.Omega.{arith}
 use mathlib.Core.Path.{refl}
-use Rattle.reply_envelope.specs.Frames.{closing-law, copied}
+use Rattle.reply_envelope.specs.FramesLaws.{closing-law, copied}
 use borrow.Author.Needs.{needs}
 use Rattle.reply_closing.proofs.put_closing.Statement.{statement}
 use Rattle.reply_closing.proofs.put_closing.Tie as tie

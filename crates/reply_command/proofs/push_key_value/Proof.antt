@@ -1,6 +1,6 @@
 use native.Mathlib.Omega.{arith}
 use denote.Ref.{now}
-use Rattle.reply_command.specs.Parts.{keyValue-law}
+use Rattle.reply_command.specs.PartsLaws.{keyValue-law}
 use borrow.Author.Needs.{needs}
 use Rattle.reply_command.proofs.push_key_value.Statement.{statement}
 use Rattle.reply_command.proofs.push_key_value.Tie as tie

@@ -1,5 +1,5 @@
 use native.Mathlib.Omega.{arith}
-use Rattle.reply_command.specs.Parts.{status-law}
+use Rattle.reply_command.specs.PartsLaws.{status-law}
 use borrow.Author.Needs.{needs}
 use Rattle.reply_command.proofs.push_status.Statement.{statement}
 use Rattle.reply_command.proofs.push_status.Tie as tie

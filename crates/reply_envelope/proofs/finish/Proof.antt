@@ -4,7 +4,8 @@ use mathlib.Core.Path.{refl, ap}
 use lib.ListN.{length}
 use denote.Ref.{now}
 use Rattle.fields_write_bytes.specs.PushedLaws.{again}
-use Rattle.reply_envelope.specs.Frames.{authBytes, finish-law}
+use Rattle.reply_envelope.specs.Frames.{authBytes}
+use Rattle.reply_envelope.specs.FramesLaws.{finish-law}
 use borrow.Author.Needs.{needs}
 use Rattle.reply_envelope.proofs.finish.Statement.{statement}
 use Rattle.reply_envelope.proofs.finish.Tie as tie

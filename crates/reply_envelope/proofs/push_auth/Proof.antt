@@ -1,5 +1,5 @@
 use native.Mathlib.Omega.{arith}
-use Rattle.reply_envelope.specs.Frames.{auth-law}
+use Rattle.reply_envelope.specs.FramesLaws.{auth-law}
 use borrow.Author.Needs.{needs}
 use Rattle.reply_envelope.proofs.push_auth.Statement.{statement}
 use Rattle.reply_envelope.proofs.push_auth.Tie as tie

@@ -3,7 +3,7 @@ use denote.Ref.{now}
 use native.Mathlib.Omega.{arith}
 use Rattle.signature_sha1.specs.Sha1.{Answer}
 use Rattle.signature_hmac.specs.Hmac.{macAnswer}
-use Rattle.reply_envelope.specs.Frames.{made, never-made}
+use Rattle.reply_envelope.specs.FramesLaws.{made, never-made}
 use borrow.Author.Needs.{needs}
 use Rattle.reply_envelope.proofs.sign.Statement.{statement}
 use Rattle.reply_envelope.proofs.sign.Tie as tie

@@ -1,10 +1,9 @@
 use native.Mathlib.Omega.{arith}
 use denote.Ref.{now}
-use Rattle.fields_write_bytes.specs.Pushed.{maybe}
 use Rattle.protocol.specs.Judge.{keyValue}
-use Rattle.protocol.specs.Reply.{commandTree}
-use Rattle.reply_command.specs.Parts.{command-law}
-use Rattle.reply_envelope.specs.Frames.{signed-whole, copied}
+use Rattle.reply_command.specs.PartsLaws.{command-law}
+use Rattle.reply_command.specs.Repeated.{ackOf, commandTo}
+use Rattle.reply_envelope.specs.FramesLaws.{signed-whole, copied}
 use borrow.Author.Needs.{needs}
 use Rattle.reply_key_value.proofs.put_key_value.Statement.{statement}
 use Rattle.reply_key_value.proofs.put_key_value.Tie as tie
@@ -57,13 +56,14 @@ same-length c = search needs
 returns : tie.Need-returns
 returns c =
     let a = c .before .before .before .before .before .before .before .before .before .before .before .before .before .before .before .before .before .before .before .before .before .before .before .before .before .before .before .args in
+    let to = a .reply-to in
     let end = c .before .before .before .before .before .before .before .finish in
     let body = keyValue (now (a .key)) (now (a .version)) (now (a .tag)) (a .algorithm) in
-    let command = command-law (a .connection) (maybe (a .ack)) (a .kind) body 1 (c .before .before .before .before .before .before .before .before .before .before .push-header .ensures .0)
+    let command = command-law (to .connection) (ackOf to) (to .kind) body 1 (c .before .before .before .before .before .before .before .before .before .before .push-header .ensures .0)
     (c .before .before .before .before .before .before .before .before .before .before .before .before .before .push-key-value .ensures .0)
     (c .before .before .before .before .before .before .before .before .before .before .before .before .before .before .before .before .push-status .ensures .0) in
     copied (end .last .0) (end .result) 1024 (omega arith)
-    (signed-whole (commandTree (a .connection) (maybe (a .ack)) (a .kind) body 1) _ (end .ensures .0) command
+    (signed-whole (commandTo to body 1) _ (end .ensures .0) command
     (c .before .before .before .before .before .before .before .before .before .before .before .before .before .before .before .before .before .before .before .push-bytes .ensures))
     (c .before .before .copy .ensures)
 

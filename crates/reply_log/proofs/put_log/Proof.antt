@@ -1,11 +1,11 @@
 use native.Mathlib.Omega.{arith}
-use mathlib.Core.Path.{_≡_, refl}
+use mathlib.Core.Path.{refl}
 use denote.Ref.{now}
-use Rattle.fields_write_bytes.specs.Pushed.{maybe}
-use Rattle.protocol.specs.Judge.{log, logWith}
-use Rattle.protocol.specs.Reply.{commandTree}
-use Rattle.reply_command.specs.Parts.{command-law}
-use Rattle.reply_envelope.specs.Frames.{no-value, signed-whole, copied}
+use Rattle.protocol.specs.Judge.{log}
+use Rattle.reply_command.specs.PartsLaws.{command-law}
+use Rattle.reply_command.specs.Repeated.{ackOf, commandTo}
+use Rattle.reply_log_body.specs.Asked.{logBy}
+use Rattle.reply_envelope.specs.FramesLaws.{no-value, signed-whole, copied}
 use borrow.Author.Needs.{needs}
 use Rattle.reply_log.proofs.put_log.Statement.{statement}
 use Rattle.reply_log.proofs.put_log.Tie as tie
@@ -52,13 +52,14 @@ same-length c = search needs
 returns : tie.Need-returns
 returns c =
     let a = c .before .before .before .before .before .before .before .before .before .before .before .before .before .before .before .before .before .before .before .before .before .before .args in
+    let to = a .reply-to in
     let end = c .before .before .before .before .before .before .before .finish in
-    let body = log (logWith (now (a .store)) (now (a .readings)) (a .utilized) (a .heated) (a .filled) (a .limited)) in
-    let command = command-law (a .connection) (maybe (a .ack)) (a .kind) body 1 (c .before .before .before .before .before .before .before .before .before .before .push-header .ensures .0)
+    let body = log (logBy (now (a .store)) (now (a .readings)) (a .parts)) in
+    let command = command-law (to .connection) (ackOf to) (to .kind) body 1 (c .before .before .before .before .before .before .before .before .before .before .push-header .ensures .0)
     (c .before .before .before .before .before .before .before .before .before .before .before .before .before .push-log .ensures .0)
     (c .before .before .before .before .before .before .before .before .before .before .before .before .before .before .before .before .push-status .ensures .0) in
     copied (end .last .0) (end .result) 1024 (omega arith)
-    (signed-whole (commandTree (a .connection) (maybe (a .ack)) (a .kind) body 1) _ (end .ensures .0) command (no-value 1024 _ refl))
+    (signed-whole (commandTo to body 1) _ (end .ensures .0) command (no-value 1024 _ refl))
     (c .before .before .copy .ensures)
 
 pub put-log-spec : {M : Type 1} → statement M

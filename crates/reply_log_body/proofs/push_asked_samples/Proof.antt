@@ -2,7 +2,7 @@ use native.Mathlib.Omega.{arith}
 use denote.Ref.{now}
 use Rattle.fields_write_bytes.specs.PushedLaws.{pushed-none, again}
 use Rattle.log_readings.specs.Lent.{placesFrom, sampleOf}
-use Rattle.protocol.specs.Command.{mapL}
+use Rattle.base_definitions.specs.Lists.{mapL}
 use Rattle.reply_log_body.specs.LogLaws.{samples-asked, samples-left}
 use borrow.Author.Needs.{needs}
 use Rattle.reply_log_body.proofs.push_asked_samples.Statement.{statement}

@@ -1,11 +1,10 @@
 use native.Mathlib.Omega.{arith}
-use mathlib.Core.Path.{_≡_, ap, _∙_}
+use mathlib.Core.Path.{ap, _∙_}
 use denote.Ref.{now}
-use lib.ListN.{length}
 use Rattle.log_binary32.specs.Binary32.{portion}
 use Rattle.fields_encoding.specs.Encode.{floatBytes, fixField}
 use Rattle.fields_write_bytes.specs.PushedLaws.{again}
-use Rattle.store_layout.specs.Store.{blocksIn, entriesOf}
+use Rattle.store_layout.specs.Store.{blocksIn}
 use Rattle.store_layout.specs.StoreLaws.{room}
 use Rattle.protocol.specs.Judge.{capacityOf}
 use Rattle.reply_log_body.specs.LogLaws.{capacity-law}

@@ -1,11 +1,12 @@
 use native.Mathlib.Omega.{arith}
-use mathlib.Core.Path.{_≡_, sym, subst}
+use mathlib.Core.Path.{sym, subst}
 use mathlib.Core.List.{List}
 use Prim.Native.Nat.{ℕ, _+_, _≤_}
 use lib.ListN.{length}
 use denote.Ref.{now}
 use Rattle.fields_write_bytes.specs.Pushed.{Pushed}
-use Rattle.log_readings.specs.LentLaws.{Places, temperatures-placed, utilizations-placed}
+use Rattle.log_readings.specs.Places.{Places}
+use Rattle.log_readings.specs.LentLaws.{temperatures-placed, utilizations-placed}
 use Rattle.reply_log_body.specs.LogLaws.{log-law}
 use borrow.Author.Needs.{needs}
 use Rattle.reply_log_body.proofs.push_log.Statement.{statement}
@@ -93,7 +94,7 @@ returns c =
     let capacity = heated .before .before .before .before .before in
     let limits = capacity .before .before .before .before in
     let a = limits .before .before .before .before .before .args in (
-      log-law (now (a .store)) (now (a .readings)) (a .utilized) (a .heated) (a .filled) (a .limited) (utilized .before .before .utilizations .ensures .0) (heated .before .before .temperatures .ensures .0)
+      log-law (now (a .store)) (now (a .readings)) (a .parts .utilizations) (a .parts .temperatures) (a .parts .capacities) (a .parts .limits) (utilized .before .before .utilizations .ensures .0) (heated .before .before .temperatures .ensures .0)
           (outer .push-head2 .ensures .0) (inner .push-head .ensures .0) (utilized .push-asked-samples2 .ensures .0) (heated .push-asked-samples .ensures .0)
           (capacity .push-asked-capacity .ensures .0) (limits .push-asked-limits .ensures .0),
       omega (

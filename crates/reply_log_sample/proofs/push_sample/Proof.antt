@@ -2,7 +2,7 @@ use native.Mathlib.Omega.{arith}
 use denote.Ref.{now}
 use Rattle.log_binary32.specs.Celsius.{sentBits}
 use Rattle.log_readings.specs.Lent.{placeAt, sampleOf}
-use Rattle.reply_log_sample.specs.Samples.{name-said, sample-law}
+use Rattle.reply_log_sample.specs.SamplesLaws.{name-said, sample-law}
 use borrow.Author.Needs.{needs}
 use Rattle.reply_log_sample.proofs.push_sample.Statement.{statement}
 use Rattle.reply_log_sample.proofs.push_sample.Tie as tie

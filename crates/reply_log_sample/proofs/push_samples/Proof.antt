@@ -5,7 +5,8 @@ use denote.Ref.{now}
 use Rattle.fields_schema.specs.Tree.{done}
 use Rattle.fields_encoding.specs.Encode.{encode, eachSub}
 use Rattle.fields_write_bytes.specs.Pushed.{Pushed}
-use Rattle.reply_log_sample.specs.Samples.{sampleTrees, samples-none, samples-more, samples-all}
+use Rattle.reply_log_sample.specs.Samples.{sampleTrees}
+use Rattle.reply_log_sample.specs.SamplesLaws.{samples-none, samples-more, samples-all}
 use Rattle.reply_log_sample.proofs.push_samples.Statement.{statement}
 use Rattle.reply_log_sample.proofs.push_samples.Tie as tie
 

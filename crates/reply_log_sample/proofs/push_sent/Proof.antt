@@ -1,6 +1,6 @@
 use native.Mathlib.Omega.{arith}
 use Rattle.fields_write_bytes.specs.PushedLaws.{pushed-none, again}
-use Rattle.reply_log_sample.specs.Samples.{sent-omitted, sent-bits}
+use Rattle.reply_log_sample.specs.SamplesLaws.{sent-omitted, sent-bits}
 use borrow.Author.Needs.{needs}
 use Rattle.reply_log_sample.proofs.push_sent.Statement.{statement}
 use Rattle.reply_log_sample.proofs.push_sent.Tie as tie

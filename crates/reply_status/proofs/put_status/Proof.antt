@@ -1,10 +1,9 @@
 use native.Mathlib.Omega.{arith}
 use mathlib.Core.Path.{refl}
-use Rattle.fields_write_bytes.specs.Pushed.{maybe}
 use Rattle.protocol.specs.Judge.{bare}
-use Rattle.protocol.specs.Reply.{commandTree}
-use Rattle.reply_command.specs.Parts.{bare-law}
-use Rattle.reply_envelope.specs.Frames.{no-value, signed-whole, copied}
+use Rattle.reply_command.specs.PartsLaws.{bare-law}
+use Rattle.reply_command.specs.Repeated.{ackOf, commandTo}
+use Rattle.reply_envelope.specs.FramesLaws.{no-value, signed-whole, copied}
 use borrow.Author.Needs.{needs}
 use Rattle.reply_status.proofs.put_status.Statement.{statement}
 use Rattle.reply_status.proofs.put_status.Tie as tie
@@ -45,11 +44,12 @@ same-length c = search needs
 returns : tie.Need-returns
 returns c =
     let a = c .before .before .before .before .before .before .before .before .before .before .before .before .before .before .before .before .before .args in
+    let to = a .reply-to in
     let end = c .before .before .before .before .before .before .before .finish in
-    let command = bare-law (a .connection) (maybe (a .ack)) (a .kind) (a .code) (c .before .before .before .before .before .before .before .before .before .before .push-header .ensures .0)
+    let command = bare-law (to .connection) (ackOf to) (to .kind) (a .code) (c .before .before .before .before .before .before .before .before .before .before .push-header .ensures .0)
     (c .before .before .before .before .before .before .before .before .before .before .before .before .before .push-status .ensures .0) in
     copied (end .last .0) (end .result) 256 (omega arith)
-    (signed-whole (commandTree (a .connection) (maybe (a .ack)) (a .kind) bare (a .code)) _ (end .ensures .0) command (no-value 256 _ refl))
+    (signed-whole (commandTo to bare (a .code)) _ (end .ensures .0) command (no-value 256 _ refl))
     (c .before .before .copy .ensures)
 
 pub put-status-spec : {M : Type 1} → statement M

@@ -5,8 +5,8 @@ use borrow.Author.Tests.{not-true, not-false}
 use Rattle.fields_schema.specs.declared.Kind.the-variants as kind
 use Rattle.fields_lookup.specs.Views.{Level, bytesAt}
 use Rattle.fields_lookup.proofs.Slotted.{level-sized, part-ready}
-use Rattle.request_scope.specs.Laws.{level-at}
-use Rattle.fields_lookup.specs.Slices.{slice-at}
+use Rattle.request_scope.specs.ScopeLaws.{level-at}
+use Rattle.fields_lookup.specs.SliceLaws.{slice-at}
 use Rattle.request_acl.proofs.Scopes.{slice-short}
 use Rattle.request_acl.proofs.Acls.{AclFacts, acl-facts, acl-nameless, acl-keyless, acl-long, acl-made}
 use borrow.Author.Needs.{needs}

@@ -3,7 +3,7 @@ use denote.Ref.{now}
 use borrow.Author.Tests.{not-true, not-false}
 use Rattle.access_record.specs.Table as access
 use Rattle.access_table_write.specs.Write.{putScope}
-use Rattle.fields_lookup.specs.Slices.{slice-at}
+use Rattle.fields_lookup.specs.SliceLaws.{slice-at}
 use Rattle.request_acl.proofs.Scopes.{slice-short, makes-no, sliced}
 use borrow.Author.Needs.{needs}
 use Rattle.request_acl.proofs.add_scope_from.Statement.{statement}

@@ -7,7 +7,7 @@ use Rattle.fields_schema.specs.declared.Kind.the-variants as kind
 use Rattle.protocol.specs.Command.{scopeOf}
 use Rattle.request_scope.specs.Stands.{aclIn}
 use Rattle.request_scope.specs.Scope.{scopeTaken}
-use Rattle.request_scope.specs.Rests.{rest-stands}
+use Rattle.request_scope.specs.RestsLaws.{rest-stands}
 use Rattle.request_acl.specs.Taken.{scopesTaken}
 use Rattle.request_acl.proofs.Rests.{Adding, adding-start, adding-none, adding-refused, adding-on, adding-end}
 use Rattle.request_acl.proofs.Acls.{putThem, putIt, them-nil, them-cons}

@@ -4,8 +4,8 @@ use denote.Ref.{now}
 use Rattle.fields_schema.specs.declared.Kind.the-variants as kind
 use Rattle.fields_lookup.specs.Views.{Level, bytesAt}
 use Rattle.fields_lookup.proofs.Slotted.{level-sized}
-use Rattle.protocol.specs.Command.{orElse}
-use Rattle.request_scope.specs.Laws.{level-at}
+use Rattle.base_definitions.specs.Options.{orElse}
+use Rattle.request_scope.specs.ScopeLaws.{level-at}
 use borrow.Author.Needs.{needs}
 use Rattle.request_hmac_algorithm.proofs.algorithm_of.Statement.{statement}
 use Rattle.request_hmac_algorithm.proofs.algorithm_of.Tie as tie

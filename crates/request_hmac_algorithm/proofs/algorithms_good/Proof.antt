@@ -3,7 +3,7 @@ use denote.Ref.{now}
 use borrow.Author.Tests.{not-true, not-false, eq-eqb, ne-eqb}
 use Rattle.fields_schema.specs.declared.Kind.the-variants as kind
 use Rattle.protocol.specs.Command.{aclOf}
-use Rattle.request_scope.specs.Rests.{rest-stands}
+use Rattle.request_scope.specs.RestsLaws.{rest-stands}
 use Rattle.request_hmac_algorithm.proofs.Algorithms.{Judging, judging-start, judging-empty, judging-end, judging-other, judging-on}
 use Rattle.request_hmac_algorithm.proofs.algorithms_good.Statement.{statement}
 use Rattle.request_hmac_algorithm.proofs.algorithms_good.Tie as tie

@@ -1,6 +1,5 @@
-use mathlib.Core.Path.{_∙_}
-use Rattle.access_record.specs.Table.{bit}
-use Rattle.request_log_types.specs.Laws.{types-ask}
+use Rattle.base_definitions.specs.Bits.{bit}
+use Rattle.request_log_types.specs.LogTypeLaws.{types-ask}
 use borrow.Author.Needs.{needs}
 use Rattle.request_log_types.proofs.asks.Statement.{statement}
 use Rattle.request_log_types.proofs.asks.Tie as tie

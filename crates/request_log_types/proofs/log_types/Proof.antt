@@ -7,14 +7,15 @@ use lib.ListN.{length}
 use Prim.Native.Nat.{ℕ}
 use borrow.Author.Tests.{not-true, not-false}
 use Rattle.fields_schema.specs.Tree.{Tree, done, isSome, listed, subAt, treeIn}
-use Rattle.fields_schema.specs.Merged.{sub-in}
+use Rattle.fields_schema.specs.MergedLaws.{sub-in}
 use Rattle.fields_schema.specs.declared.Kind.the-variants as k
 use Rattle.access_record.specs.Table.{maskOf}
 use Rattle.fields_lookup.specs.Views.{bytesAt, treeOf}
 use Rattle.fields_lookup.proofs.Slotted.{whole-bytes}
 use Rattle.fields_lookup.specs.declared.parts.Part.{Part}
 use Rattle.request_merged.specs.Types.{logTypes}
-use Rattle.fields_repeated.specs.Joined.{Joins, joins-start, joins-empty, joins-end, joins-reads, joins-on}
+use Rattle.fields_repeated.specs.Joins.{Joins}
+use Rattle.fields_repeated.specs.JoinsLaws.{joins-start, joins-empty, joins-end, joins-reads, joins-on}
 use Rattle.request_log_types.specs.Types.{BodyTypes, LogTypes, TypesAre}
 use Rattle.request_log_types.proofs.log_types.Statement.{statement}
 use Rattle.request_log_types.proofs.log_types.Tie as tie

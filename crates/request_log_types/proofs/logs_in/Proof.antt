@@ -4,7 +4,8 @@ use mathlib.Core.Path.{refl}
 use Rattle.fields_schema.specs.Tree.{Tree, done, subAt, treeIn}
 use Rattle.fields_schema.specs.declared.Kind.the-variants as k
 use Rattle.fields_lookup.specs.Views.{bytesAt, treeOf, After}
-use Rattle.fields_repeated.specs.Joined.{Joins, joins-start, joins-empty, joins-end, joins-reads, joins-on, after-none, after-more}
+use Rattle.fields_repeated.specs.Joins.{Joins}
+use Rattle.fields_repeated.specs.JoinsLaws.{joins-start, joins-empty, joins-end, joins-reads, joins-on, after-none, after-more}
 use Rattle.request_log_types.specs.Types.{LogTypes}
 use Rattle.request_log_types.proofs.logs_in.Statement.{statement}
 use Rattle.request_log_types.proofs.logs_in.Tie as tie

@@ -1,5 +1,5 @@
 use mathlib.Core.Path.{sym, refl, _∙_}
-use Rattle.request_log_types.specs.Laws.{types-none, types-some, no-types, some-types}
+use Rattle.request_log_types.specs.LogTypeLaws.{types-none, types-some, no-types, some-types}
 use borrow.Author.Needs.{needs}
 use Rattle.request_log_types.proofs.types_good.Statement.{statement}
 use Rattle.request_log_types.proofs.types_good.Tie as tie

@@ -1,5 +1,5 @@
 use mathlib.Core.Path.{refl}
-use Rattle.request_scope.specs.Offset.{offset-tested}
+use Rattle.request_scope.specs.OffsetLaws.{offset-tested}
 use borrow.Author.Needs.{needs}
 use Rattle.request_scope.proofs.offset_good.Statement.{statement}
 use Rattle.request_scope.proofs.offset_good.Tie as tie

@@ -8,7 +8,7 @@ use borrow.Author.Tests.{not-true, not-false, leb-true}
 use Rattle.fields_schema.specs.declared.Kind.the-variants as kind
 use Rattle.fields_lookup.specs.Views.{Level, bytesAt}
 use Rattle.fields_lookup.proofs.Slotted.{level-sized, part-ready}
-use Rattle.request_scope.specs.Laws.{level-at}
+use Rattle.request_scope.specs.ScopeLaws.{level-at}
 use Rattle.request_scope.proofs.Facts.{Facts, facts-of, scope-unnamed, scope-far, scope-long, scope-read}
 use borrow.Author.Needs.{needs}
 use Rattle.request_scope.proofs.read_scope.Statement.{statement}

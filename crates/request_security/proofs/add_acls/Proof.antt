@@ -6,7 +6,7 @@ use borrow.Author.Tests.{not-true, not-false}
 use Rattle.fields_schema.specs.declared.Kind.the-variants as kind
 use Rattle.protocol.specs.Command.{aclOf}
 use Rattle.request_scope.specs.Stands.{aclsIn}
-use Rattle.request_scope.specs.Rests.{rest-stands}
+use Rattle.request_scope.specs.RestsLaws.{rest-stands}
 use Rattle.request_acl.specs.Taken.{aclTaken, putOne}
 use Rattle.request_security.specs.Security.{aclsTaken}
 use Rattle.request_acl.proofs.Rests.{Adding, adding-start, adding-none, adding-refused, adding-on, adding-end}

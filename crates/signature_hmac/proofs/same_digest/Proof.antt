@@ -2,8 +2,8 @@ use denote.Ref.{now}
 use mathlib.Core.Path.{_≡_}
 use Prim.Native.Nat.{_-_, _≤_}
 use native.Mathlib.Omega.{arith}
-use Rattle.signature_hmac.specs.Steps.{Agree}
-use Rattle.signature_hmac.specs.StepsLaws.{agree-none, agree-more, agree-is, differ-length}
+use Rattle.signature_hmac.specs.Agree.{Agree}
+use Rattle.signature_hmac.specs.AgreeLaws.{agree-none, agree-more, agree-is, differ-length}
 use borrow.Author.Needs.{needs}
 use Rattle.signature_hmac.proofs.same_digest.Statement.{statement}
 use Rattle.signature_hmac.proofs.same_digest.Tie as tie

@@ -1,7 +1,8 @@
 use mathlib.Core.Path.{sym, ap, _∙_}
 use denote.Ref.{now}
 use Rattle.signature_hmac.specs.declared.Mac.the-variants.{Made, KeyTooLong, TextTooLong}
-use Rattle.signature_hmac.specs.Hmac.{macAnswer, sameBytes}
+use Rattle.base_definitions.specs.Lists.{sameBytes}
+use Rattle.signature_hmac.specs.Hmac.{macAnswer}
 use Rattle.signature_hmac.specs.HmacLaws.{verified-by, bytes-length}
 use borrow.Author.Needs.{needs}
 use Rattle.signature_hmac.proofs.verify.Statement.{statement}

@@ -1,7 +1,7 @@
 use mathlib.Core.Path.{refl}
 use native.Mathlib.Omega.{arith}
 use denote.Ref.{now}
-use Rattle.signature_sha1.specs.StepsLaws.{marked-length, last-one, last-two}
+use Rattle.signature_sha1.specs.PaddedBlockLaws.{marked-length, last-one, last-two}
 use borrow.Author.Needs.{needs}
 use Rattle.signature_sha1.proofs.last.Statement.{statement}
 use Rattle.signature_sha1.proofs.last.Tie as tie

@@ -4,7 +4,7 @@ use native.Mathlib.Omega.{arith}
 use denote.Ref.{now}
 use lib.ListN.{length, replicate, length-set}
 use lib.Seq.{paste, paste-zero}
-use Rattle.signature_sha1.specs.StepsLaws.{front-more, marked-made}
+use Rattle.signature_sha1.specs.PaddedBlockLaws.{front-more, marked-made}
 use borrow.Author.Needs.{needs}
 use Rattle.signature_sha1.proofs.marked.Statement.{statement}
 use Rattle.signature_sha1.proofs.marked.Tie as tie

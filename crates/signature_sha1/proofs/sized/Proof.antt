@@ -5,7 +5,7 @@ use lib.ListN.{length, length-set}
 use lib.Seq.{paste, paste-zero}
 use Rattle.signature_sha1.specs.Sha1.{be}
 use Rattle.signature_sha1.specs.Sha1Laws.{be-at, be-length}
-use Rattle.signature_sha1.specs.StepsLaws.{paste-more, sized-made}
+use Rattle.signature_sha1.specs.PaddedBlockLaws.{paste-more, sized-made}
 use borrow.Author.Needs.{needs}
 use Rattle.signature_sha1.proofs.sized.Statement.{statement}
 use Rattle.signature_sha1.proofs.sized.Tie as tie

@@ -2,8 +2,8 @@ use mathlib.Core.Path.{_≡_}
 use Prim.Native.Nat.{_-_, _≤_}
 use native.Mathlib.Omega.{arith}
 use denote.Ref.{now}
-use Rattle.signature_sha1_compression.specs.Steps.{Advances}
-use Rattle.signature_sha1_compression.specs.StepsLaws.{majority, advances-more}
+use Rattle.signature_sha1_compression.specs.Rounds.{Advances}
+use Rattle.signature_sha1_compression.specs.RoundLaws.{majority, advances-more}
 use borrow.Author.Needs.{needs}
 use Rattle.signature_sha1_compression.proofs.majority_rounds.Statement.{statement}
 use Rattle.signature_sha1_compression.proofs.majority_rounds.Tie as tie

@@ -2,8 +2,8 @@ use mathlib.Core.Path.{_≡_, refl}
 use Prim.Native.Nat.{_+_, _-_, _≤_}
 use native.Mathlib.Omega.{arith}
 use denote.Ref.{now}
-use Rattle.signature_sha1_compression.specs.Steps.{Advances}
-use Rattle.signature_sha1_compression.specs.StepsLaws.{advances-more}
+use Rattle.signature_sha1_compression.specs.Rounds.{Advances}
+use Rattle.signature_sha1_compression.specs.RoundLaws.{advances-more}
 use borrow.Author.Needs.{needs}
 use Rattle.signature_sha1_compression.proofs.parity_rounds.Statement.{statement}
 use Rattle.signature_sha1_compression.proofs.parity_rounds.Tie as tie

@@ -1,7 +1,7 @@
 use mathlib.Core.Path.{sym}
 use denote.Ref.{now}
 use Rattle.signature_sha1_compression.specs.CompressionLaws.{rounds-none}
-use Rattle.signature_sha1_compression.specs.StepsLaws.{parity-20, parity-60}
+use Rattle.signature_sha1_compression.specs.RoundLaws.{parity-20, parity-60}
 use borrow.Author.Needs.{needs}
 use Rattle.signature_sha1_compression.proofs.rounds.Statement.{statement}
 use Rattle.signature_sha1_compression.proofs.rounds.Tie as tie

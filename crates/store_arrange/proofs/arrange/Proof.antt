@@ -3,7 +3,8 @@ use native.Mathlib.Omega.{arith}
 use mathlib.Core.Path.{_∙_, subst}
 use lib.ListN.{length}
 use Rattle.store_arrange.specs.Brought.{Brought}
-use Rattle.store_arrange.specs.Arranging.{Arranging, arranging-start, arranging-more, arranging-all}
+use Rattle.store_arrange.specs.Arranging.{Arranging}
+use Rattle.store_arrange.specs.ArrangingLaws.{arranging-start, arranging-more, arranging-all}
 use borrow.Author.Needs.{needs}
 use Rattle.store_arrange.proofs.arrange.Statement.{statement}
 use Rattle.store_arrange.proofs.arrange.Tie as tie

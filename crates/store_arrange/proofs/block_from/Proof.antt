@@ -2,8 +2,8 @@ use Prim.Native.Nat.{ℕ, _+_, _-_}
 use native.Mathlib.Omega.{arith}
 use mathlib.Core.Path.{_≡_, _∙_, ap}
 use lib.ListN.{length, take, drop}
-use Rattle.store_block.specs.Written.{over-all}
-use Rattle.store_arrange.specs.Brought.{part}
+use Rattle.store_block.specs.OverLaws.{over-all}
+use Rattle.store_arrange.specs.BroughtLaws.{part}
 use borrow.Author.Needs.{needs}
 use Rattle.store_arrange.proofs.block_from.Statement.{statement}
 use Rattle.store_arrange.proofs.block_from.Tie as tie

@@ -1,7 +1,7 @@
 use native.Mathlib.Omega.{arith}
 use native.Mathlib.Decide.{decLt}
 use Prim.Native.Nat.{_<_}
-use Rattle.store_arrange.specs.Brought.{brought, there-already}
+use Rattle.store_arrange.specs.BroughtLaws.{brought, there-already}
 use borrow.Author.Needs.{needs}
 use Rattle.store_arrange.proofs.bring.Statement.{statement}
 use Rattle.store_arrange.proofs.bring.Tie as tie

@@ -1,7 +1,7 @@
 use Prim.Native.Nat.{ℕ}
 use mathlib.Core.Path.{_∙_, ap, ap₂}
 use mathlib.Core.List.{List}
-use Rattle.store_block.specs.Written.{over}
+use Rattle.store_block.specs.Over.{over}
 use Rattle.store_arrange.specs.Brought.{exchanged}
 use borrow.Author.Needs.{needs}
 use Rattle.store_arrange.proofs.exchange.Statement.{statement}

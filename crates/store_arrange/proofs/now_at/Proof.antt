@@ -1,4 +1,4 @@
-use Rattle.store_arrange.specs.Brought.{is-renamed, not-renamed}
+use Rattle.store_arrange.specs.BroughtLaws.{is-renamed, not-renamed}
 use Rattle.store_arrange.proofs.now_at.Statement.{statement}
 use Rattle.store_arrange.proofs.now_at.Tie as tie
 

@@ -1,7 +1,8 @@
 use Prim.Native.Nat.{_-_, _≤_}
 use native.Mathlib.Omega.{arith}
 use lib.ListN.{length}
-use Rattle.store_arrange.specs.Brought.{Renaming, renaming-start, renaming-more, renaming-all}
+use Rattle.store_arrange.specs.Brought.{Renaming}
+use Rattle.store_arrange.specs.BroughtLaws.{renaming-start, renaming-more, renaming-all}
 use borrow.Author.Needs.{needs}
 use Rattle.store_arrange.proofs.rename.Statement.{statement}
 use Rattle.store_arrange.proofs.rename.Tie as tie

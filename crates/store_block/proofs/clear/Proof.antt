@@ -3,7 +3,8 @@ use native.Mathlib.Omega.{arith}
 use native.Mathlib.Nat.{le-antisymm}
 use mathlib.Core.Path.{_≡_, _∙_, ap, refl, sym}
 use lib.ListN.{length, replicate, length-set}
-use Rattle.store_block.specs.Written.{over, over-none, zero-more}
+use Rattle.store_block.specs.Over.{over}
+use Rattle.store_block.specs.OverLaws.{over-none, zero-more}
 use Rattle.store_block.proofs.clear.Statement.{statement}
 use Rattle.store_block.proofs.clear.Tie as tie
 

@@ -5,7 +5,8 @@ use mathlib.Core.Path.{_≡_, _∙_, refl, sym}
 use mathlib.Core.List.{List}
 use lib.ListN.{length, drop}
 use Rattle.store_block.specs.Order.{cmp}
-use Rattle.store_block.specs.Word.{wordAt, Bytes, word-less, word-greater, word-same}
+use Rattle.store_block.specs.Word.{wordAt, Bytes}
+use Rattle.store_block.specs.WordLaws.{word-less, word-greater, word-same}
 use Rattle.store_block.proofs.compare.Statement.{statement}
 use Rattle.store_block.proofs.compare.Tie as tie
 

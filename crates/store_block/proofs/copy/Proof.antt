@@ -5,7 +5,8 @@ use mathlib.Core.Path.{_≡_, _∙_, ap, refl, sym}
 use mathlib.Core.List.{List}
 use lib.ListN.{length, take, set, getD, length-set}
 use lib.Seq.{take-length}
-use Rattle.store_block.specs.Written.{over, over-none, over-copy}
+use Rattle.store_block.specs.Over.{over}
+use Rattle.store_block.specs.OverLaws.{over-none, over-copy}
 use Rattle.store_block.proofs.copy.Statement.{statement}
 use Rattle.store_block.proofs.copy.Tie as tie
 

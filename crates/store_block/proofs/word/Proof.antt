@@ -1,4 +1,4 @@
-use Rattle.store_block.specs.Word.{word-four}
+use Rattle.store_block.specs.WordLaws.{word-four}
 use borrow.Author.Needs.{needs}
 use Rattle.store_block.proofs.word.Statement.{statement}
 use Rattle.store_block.proofs.word.Tie as tie

@@ -2,7 +2,8 @@ use Prim.Native.Nat.{_≤_, _-_}
 use native.Mathlib.Omega.{arith}
 use native.Mathlib.Nat.{le-antisymm}
 use lib.ListN.{length}
-use Rattle.store_block.specs.Direct.{Ored, ored-none, ored-more, ored-done}
+use Rattle.store_block.specs.Direct.{Ored}
+use Rattle.store_block.specs.DirectLaws.{ored-none, ored-more, ored-done}
 use Rattle.store_block.proofs.zeros.Statement.{statement}
 use Rattle.store_block.proofs.zeros.Tie as tie
 

@@ -2,7 +2,7 @@ use Prim.Native.Nat.{_+_, _*_}
 use native.Mathlib.Omega.{arith}
 use mathlib.Core.Path.{_≡_}
 use lib.ListN.{getD}
-use Rattle.store_block.specs.Decides.{says-yes, says-no}
+use Rattle.store_block.specs.DecidesLaws.{says-yes, says-no}
 use borrow.Author.Needs.{needs}
 use Rattle.store_block_limits.proofs.limits.Statement.{statement}
 use Rattle.store_block_limits.proofs.limits.Tie as tie

@@ -1,8 +1,9 @@
-use mathlib.Core.Path.{_≡_, refl, subst}
+use mathlib.Core.Path.{refl, subst}
 use Prim.Native.Nat.{ℕ, _≤_, _-_}
 use native.Mathlib.Nat.{le-antisymm}
 use native.Mathlib.Omega.{arith}
-use Rattle.store_block_sum.specs.Sum.{Columns, columns-more}
+use Rattle.store_block_sum.specs.Sum.{Columns}
+use Rattle.store_block_sum.specs.SumLaws.{columns-more}
 use borrow.Author.Needs.{needs}
 use Rattle.store_block_sum.proofs.columns.Statement.{statement}
 use Rattle.store_block_sum.proofs.columns.Tie as tie

@@ -1,9 +1,10 @@
-use Prim.Native.Nat.{ℕ, _+_, _*_, _≤_, _-_}
+use Prim.Native.Nat.{_+_, _*_, _≤_, _-_}
 use native.Mathlib.Omega.{arith}
 use native.Mathlib.Nat.{le-antisymm}
 use mathlib.Core.Path.{_≡_, _∙_, ap, sym}
 use lib.ListN.{getD}
-use Rattle.store_block_sum.specs.Sum.{eight, eight-none, eight-done, columns-add, product}
+use Rattle.store_block_sum.specs.Sum.{eight}
+use Rattle.store_block_sum.specs.SumLaws.{eight-none, eight-done, columns-add, product}
 use borrow.Author.Needs.{needs}
 use Rattle.store_block_sum.proofs.sum.Statement.{statement}
 use Rattle.store_block_sum.proofs.sum.Tie as tie

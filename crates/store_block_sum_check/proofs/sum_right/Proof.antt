@@ -1,5 +1,5 @@
 use borrow.Author.Needs.{needs}
-use Rattle.store_block.specs.Direct.{held-decides}
+use Rattle.store_block.specs.DirectLaws.{held-decides}
 use Rattle.store_block_sum_check.proofs.sum_right.Statement.{statement}
 use Rattle.store_block_sum_check.proofs.sum_right.Tie as tie
 

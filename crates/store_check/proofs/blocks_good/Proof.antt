@@ -5,9 +5,10 @@ use mathlib.Core.List.{List, []}
 use lib.ListN.{length, getD, take, drop, length-drop}
 use borrow.Author.Tests.{not-true, not-false}
 use Rattle.store_block.specs.Block.{BlockGood}
-use Rattle.store_block.specs.Decides.{says-yes, says-no, decides-by}
+use Rattle.store_block.specs.DecidesLaws.{says-yes, says-no, decides-by}
 use Rattle.store_layout.specs.Store.{blocksIn}
-use Rattle.store_layout.specs.Check.{GoodFrom, Turn, turn-in, turn-out, blank-decides, end-out, less-not-equal, less-not-greater}
+use Rattle.store_layout.specs.Check.{GoodFrom, Turn}
+use Rattle.store_layout.specs.CheckLaws.{turn-in, turn-out, blank-decides, end-out, less-not-equal, less-not-greater}
 use borrow.Author.Needs.{needs}
 use Rattle.store_check.proofs.blocks_good.Statement.{statement}
 use Rattle.store_check.proofs.blocks_good.Tie as tie

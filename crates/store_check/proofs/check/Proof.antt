@@ -1,8 +1,9 @@
 use mathlib.Core.Path.{_∙_, sym}
 use borrow.Author.Tests.{not-true, not-false}
-use Rattle.store_block.specs.Decides.{says-no, decides-by}
-use Rattle.store_layout.specs.Size.{SizeGood, size-decides, good-size}
-use Rattle.store_layout.specs.Check.{good-from, from-good, is-test}
+use Rattle.store_block.specs.DecidesLaws.{says-no, decides-by}
+use Rattle.store_layout.specs.Size.{SizeGood}
+use Rattle.store_layout.specs.SizeLaws.{size-decides, good-size}
+use Rattle.store_layout.specs.CheckLaws.{good-from, from-good, is-test}
 use borrow.Author.Needs.{needs}
 use Rattle.store_check.proofs.check.Statement.{statement}
 use Rattle.store_check.proofs.check.Tie as tie

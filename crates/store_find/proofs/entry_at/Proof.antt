@@ -4,7 +4,7 @@ use mathlib.Core.Path.{_≡_, _∙_, sym, subst}
 use lib.ListN.{getD}
 use Rattle.store_layout.specs.declared.Parts.{Parts}
 use Rattle.store_layout.specs.Entries.{EntryAt}
-use Rattle.store_find.specs.EntryAt.{entry-place, no-place, value-long, parts-here, nowhere}
+use Rattle.store_find.specs.EntryAtLaws.{entry-place, no-place, value-long, parts-here, nowhere}
 use borrow.Author.Needs.{needs}
 use Rattle.store_find.proofs.entry_at.Statement.{statement}
 use Rattle.store_find.proofs.entry_at.Tie as tie

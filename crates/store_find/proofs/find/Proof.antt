@@ -8,7 +8,7 @@ use Rattle.store_layout.specs.declared.Found.the-variants.{At, Gap}
 use Rattle.store_layout.specs.Store.{blocksIn, entriesFrom, entriesOf}
 use Rattle.store_layout.specs.Entries.{byOrder, findFrom, findIn, pastOf}
 use Rattle.store_layout.specs.EntriesLaws.{by-less, by-equal, by-greater}
-use Rattle.store_layout.specs.Walk.{find-blank, find-used, find-end}
+use Rattle.store_layout.specs.WalkLaws.{find-blank, find-used, find-end}
 use borrow.Author.Needs.{needs}
 use Rattle.store_find.proofs.find.Statement.{statement}
 use Rattle.store_find.proofs.find.Tie as tie

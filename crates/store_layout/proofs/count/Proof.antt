@@ -3,7 +3,7 @@ use native.Mathlib.Omega.{arith}
 use mathlib.Core.Path.{_≡_, _∙_, ap, refl, sym}
 use lib.ListN.{length, drop}
 use Rattle.store_layout.specs.Store.{blocksIn, entriesFrom, entriesOf}
-use Rattle.store_layout.specs.Walk.{count-blank, count-used, count-end}
+use Rattle.store_layout.specs.WalkLaws.{count-blank, count-used, count-end}
 use Rattle.store_layout.proofs.count.Statement.{statement}
 use Rattle.store_layout.proofs.count.Tie as tie
 

@@ -2,8 +2,8 @@ use Prim.Native.Nat.{_%_}
 use native.Mathlib.Omega.{arith}
 use mathlib.Core.Path.{_≡_}
 use lib.ListN.{length}
-use Rattle.store_block.specs.Decides.{says-no, decides-by, eqb-decides}
-use Rattle.store_layout.specs.Size.{is-size}
+use Rattle.store_block.specs.DecidesLaws.{says-no, decides-by, eqb-decides}
+use Rattle.store_layout.specs.SizeLaws.{is-size}
 use Rattle.store_layout.proofs.size_good.Statement.{statement}
 use Rattle.store_layout.proofs.size_good.Tie as tie
 

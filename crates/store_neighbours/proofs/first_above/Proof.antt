@@ -3,7 +3,7 @@ use native.Mathlib.Omega.{arith}
 use mathlib.Core.Path.{_∙_, ap, sym}
 use Rattle.store_layout.specs.Store.{blocksIn}
 use Rattle.store_layout.specs.Entries.{pastOf}
-use Rattle.store_neighbours.specs.Places.{above-place}
+use Rattle.store_neighbours.specs.PlacesLaws.{above-place}
 use borrow.Author.Needs.{needs}
 use Rattle.store_neighbours.proofs.first_above.Statement.{statement}
 use Rattle.store_neighbours.proofs.first_above.Tie as tie

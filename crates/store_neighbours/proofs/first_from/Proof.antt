@@ -1,6 +1,6 @@
 use mathlib.Core.Path.{_∙_, ap, sym}
 use Rattle.store_layout.specs.Entries.{placeOf}
-use Rattle.store_neighbours.specs.Places.{from-place}
+use Rattle.store_neighbours.specs.PlacesLaws.{from-place}
 use borrow.Author.Needs.{needs}
 use Rattle.store_neighbours.proofs.first_from.Statement.{statement}
 use Rattle.store_neighbours.proofs.first_from.Tie as tie

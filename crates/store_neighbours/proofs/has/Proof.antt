@@ -1,7 +1,7 @@
 use native.Mathlib.Omega.{arith}
-use Rattle.store_block.specs.Decides.{says-no}
+use Rattle.store_block.specs.DecidesLaws.{says-no}
 use Rattle.store_layout.specs.StoreLaws.{room}
-use Rattle.store_neighbours.specs.Places.{has-place}
+use Rattle.store_neighbours.specs.PlacesLaws.{has-place}
 use borrow.Author.Needs.{needs}
 use Rattle.store_neighbours.proofs.has.Statement.{statement}
 use Rattle.store_neighbours.proofs.has.Tie as tie

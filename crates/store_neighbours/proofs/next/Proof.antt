@@ -1,4 +1,4 @@
-use Rattle.store_neighbours.specs.Places.{next-is, next-is-none}
+use Rattle.store_neighbours.specs.PlacesLaws.{next-is, next-is-none}
 use borrow.Author.Needs.{needs}
 use Rattle.store_neighbours.proofs.next.Statement.{statement}
 use Rattle.store_neighbours.proofs.next.Tie as tie

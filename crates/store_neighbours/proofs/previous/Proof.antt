@@ -1,4 +1,4 @@
-use Rattle.store_neighbours.specs.Places.{previous-is, previous-is-none}
+use Rattle.store_neighbours.specs.PlacesLaws.{previous-is, previous-is-none}
 use borrow.Author.Needs.{needs}
 use Rattle.store_neighbours.proofs.previous.Statement.{statement}
 use Rattle.store_neighbours.proofs.previous.Tie as tie

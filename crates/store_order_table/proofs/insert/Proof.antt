@@ -2,7 +2,8 @@ use Prim.Native.Nat.{_+_, _-_, _≤_}
 use native.Mathlib.Omega.{arith}
 use mathlib.Core.Path.{_≡_, refl}
 use lib.ListN.{length, length-set}
-use Rattle.store_order_table.specs.Inserted.{Moving, moving-start, moving-more, moved-all}
+use Rattle.store_order_table.specs.Inserted.{Moving}
+use Rattle.store_order_table.specs.InsertedLaws.{moving-start, moving-more, moved-all}
 use Rattle.store_order_table.proofs.insert.Statement.{statement}
 use Rattle.store_order_table.proofs.insert.Tie as tie
 

@@ -2,9 +2,10 @@ use Prim.Native.Nat.{ℕ, _+_, _*_, _≤_}
 use mathlib.Core.Path.{_≡_, _∙_, sym, ap}
 use mathlib.Core.Bool.{true}
 use native.Mathlib.Omega.{arith}
-use Rattle.access_record.specs.Table.{all, scopeGood, any}
+use Rattle.base_definitions.specs.Lists.{all, any}
+use Rattle.access_record.specs.Table.{scopeGood}
 use Rattle.access_record.specs.Record.{scopesAt, scopeAt, aclAt}
-use Rattle.access_record.specs.Laws.{stops-yes, goes-yes, both-fst, both-snd, scopes-test, any-turn, any-end, below-eight, place-of}
+use Rattle.access_record.specs.TableLaws.{stops-yes, goes-yes, both-fst, both-snd, scopes-test, any-turn, any-end, below-eight, place-of}
 use Rattle.access_permission.specs.Permission.{grants}
 use borrow.Author.Needs.{needs}
 use Rattle.access_verdict.proofs.grants.acl_grants.Statement.{statement}
@@ -25,14 +26,14 @@ add-a c = let h = below-eight _ _ (c .before .pre .0 .below) (c .before .pre .0 
 add-at : tie.Need-add-at Inv-loop μ-loop
 add-at c = let h = below-eight _ _ (c .before .pre .0 .below) (c .before .pre .0 .good) in omega arith
 
-add-count : tie.Need-add-count Inv-loop μ-loop
-add-count c = let h = below-eight _ _ (c .before .pre .0 .below) (c .before .pre .0 .good) in omega arith
+add-wide : tie.Need-add-wide Inv-loop μ-loop
+add-wide c = let h = below-eight _ _ (c .before .pre .0 .below) (c .before .pre .0 .good) in omega arith
 
-element-copy-out-count : tie.Need-element-copy-out-count Inv-loop μ-loop
-element-copy-out-count c = let h = below-eight _ _ (c .before .pre .0 .below) (c .before .pre .0 .good) in omega arith
+element-copy-out-wide : tie.Need-element-copy-out-wide Inv-loop μ-loop
+element-copy-out-wide c = let h = below-eight _ _ (c .before .pre .0 .below) (c .before .pre .0 .good) in omega arith
 
-count-requires : tie.Need-count-requires Inv-loop μ-loop
-count-requires c κs = search needs
+wide-requires : tie.Need-wide-requires Inv-loop μ-loop
+wide-requires c κs = search needs
 
 loop-holds : tie.Need-loop-holds Inv-loop μ-loop
 unfolding aclAt
@@ -41,7 +42,7 @@ loop-holds c =
     let h = below-eight _ _ (s .pre .0 .below) (s .pre .0 .good) in
     let q = place-of _ _ (s .pre .0 .below) (s .pre .0 .good) in
     let f = q .scopes-few in
-    let e = c .count .ensures .0 in (
+    let e = c .wide .ensures .0 in (
       omega arith,
       ap (λ (n : ℕ). all scopeGood (scopesAt (s .args .device .now) (16 + s .args .place * 368 + 80) n)) e ∙ q .scopes-good,
       ap (λ (n : ℕ). any (grants (s .args .counts) (s .args .key .now) (s .args .protected) (s .args .permission)) (scopesAt (s .args .device .now) (16 + s .args .place * 368 + 80) n)) e,
@@ -85,9 +86,9 @@ acl-grants-spec =
     mul-a
     add-a
     add-at
-    add-count
-    element-copy-out-count
-    count-requires
+    add-wide
+    element-copy-out-wide
+    wide-requires
     loop-holds
     scope-grants-requires
     returns

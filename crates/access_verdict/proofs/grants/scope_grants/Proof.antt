@@ -1,15 +1,15 @@
 use Prim.Native.Nat.{ℕ, _+_, _*_}
 use mathlib.Core.Path.{_≡_, _∙_, sym, refl, ap₂}
-use mathlib.Core.Bool.{Bool, not}
+use mathlib.Core.Bool.{Bool, not, _&&_, _||_}
 use native.Mathlib.Omega.{arith}
 use lib.Dec.{eqb}
 use lib.ListN.{getD}
 use borrow.Author.Tests.{not-true, not-false}
-use Rattle.access_record.specs.Table.{both, either, bit}
+use Rattle.base_definitions.specs.Bits.{bit}
 use Rattle.access_record.specs.Record.{scopeAt, bytesAt}
-use Rattle.access_record.specs.Laws.{stops, goes, stops-yes, goes-yes, scope-offset, scope-value}
+use Rattle.access_record.specs.TableLaws.{stops, goes, stops-yes, goes-yes, scope-offset, scope-value}
 use Rattle.access_permission.specs.Permission.{grants, fitsAt}
-use Rattle.access_verdict.specs.Laws.{grant-test}
+use Rattle.access_verdict.specs.VerdictLaws.{grant-test}
 use borrow.Author.Needs.{needs}
 use Rattle.access_verdict.proofs.grants.scope_grants.Statement.{statement}
 use Rattle.access_verdict.proofs.grants.scope_grants.Tie as tie
@@ -21,12 +21,12 @@ abbrev J : tie.Start → Bool
 J s = grants (s .args .counts) (s .args .key .now) (s .args .protected) (s .args .permission) (scopeAt (s .args .device .now) (s .args .a))
 
 abbrev tls : tie.Start → Bool
-tls s = either (not (not (eqb (getD (s .args .device .now) (s .args .a + 4) 0) 0))) (s .args .protected)
+tls s = not (not (eqb (getD (s .args .device .now) (s .args .a + 4) 0) 0)) || s .args .protected
 
 abbrev fit : tie.Start → Bool
 fit s =
-    either (not (s .args .counts))
-    (fitsAt (bytesAt (s .args .device .now) (s .args .a + 8) (getD (s .args .device .now) (s .args .a + 1) 0)) (getD (s .args .device .now) (s .args .a) 0) (s .args .key .now))
+    not (s .args .counts) ||
+    fitsAt (bytesAt (s .args .device .now) (s .args .a + 8) (getD (s .args .device .now) (s .args .a + 1) 0)) (getD (s .args .device .now) (s .args .a) 0) (s .args .key .now)
 
 -- the bit of the permission, read of the two bytes
 held : (c : tie.After-holds)
@@ -34,34 +34,34 @@ held : (c : tie.After-holds)
 held c =
     sym
     (c .holds .ensures
-    ∙ ap₂ (λ (x y : ℕ). bit (x * 256 + y) (H c .args .permission)) (c .before .before .before .count .ensures .0) (c .before .count2 .ensures .0))
+    ∙ ap₂ (λ (x y : ℕ). bit (x * 256 + y) (H c .args .permission)) (c .before .before .before .wide .ensures .0) (c .before .wide2 .ensures .0))
 
-past-holds : (c : tie.Else1) → both (tls (H (c .before))) (fit (H (c .before))) ≡ J (H (c .before))
+past-holds : (c : tie.Else1) → (tls (H (c .before)) && fit (H (c .before))) ≡ J (H (c .before))
 past-holds c = goes (grant-test _ _ _ _ _ _) refl (held (c .before) ∙ not-false _ (c .if1 .left))
 
 past-tls : (c : tie.Else2) → fit (H (c .before .before .before .before)) ≡ J (H (c .before .before .before .before))
 past-tls c = goes refl (past-holds (c .before .before .before)) (sym (c .before .allows .ensures) ∙ not-false _ (c .if2 .left))
 
-add-count : tie.Need-add-count
-add-count c = search needs
+add-wide : tie.Need-add-wide
+add-wide c = search needs
 
-element-copy-out-count : tie.Need-element-copy-out-count
-element-copy-out-count c = search needs
+element-copy-out-wide : tie.Need-element-copy-out-wide
+element-copy-out-wide c = search needs
 
-count-requires : tie.Need-count-requires
-count-requires c κs = search needs
+wide-requires : tie.Need-wide-requires
+wide-requires c κs = search needs
 
 mul-holds : tie.Need-mul-holds
 mul-holds c = search needs
 
-add-count-2 : tie.Need-add-count-2
-add-count-2 c = search needs
+add-wide-2 : tie.Need-add-wide-2
+add-wide-2 c = search needs
 
-element-copy-out-count-2 : tie.Need-element-copy-out-count-2
-element-copy-out-count-2 c = search needs
+element-copy-out-wide-2 : tie.Need-element-copy-out-wide-2
+element-copy-out-wide-2 c = search needs
 
-count-requires-2 : tie.Need-count-requires-2
-count-requires-2 c κs = search needs
+wide-requires-2 : tie.Need-wide-requires-2
+wide-requires-2 c κs = search needs
 
 add-holds : tie.Need-add-holds
 add-holds c = search needs
@@ -90,26 +90,26 @@ returns-3 c = stops-yes _ refl (past-tls (c .before)) (c .if3 .taken)
 add-fits-at : tie.Need-add-fits-at
 add-fits-at c = search needs
 
-add-count-3 : tie.Need-add-count-3
-add-count-3 c = search needs
+add-wide-3 : tie.Need-add-wide-3
+add-wide-3 c = search needs
 
-element-copy-out-count-3 : tie.Need-element-copy-out-count-3
-element-copy-out-count-3 c = search needs
+element-copy-out-wide-3 : tie.Need-element-copy-out-wide-3
+element-copy-out-wide-3 c = search needs
 
-count-requires-3 : tie.Need-count-requires-3
-count-requires-3 c κs = search needs
+wide-requires-3 : tie.Need-wide-requires-3
+wide-requires-3 c κs = search needs
 
-element-copy-out-count-4 : tie.Need-element-copy-out-count-4
-element-copy-out-count-4 c = search needs
+element-copy-out-wide-4 : tie.Need-element-copy-out-wide-4
+element-copy-out-wide-4 c = search needs
 
-count-requires-4 : tie.Need-count-requires-4
-count-requires-4 c κs = search needs
+wide-requires-4 : tie.Need-wide-requires-4
+wide-requires-4 c κs = search needs
 
 fits-at-requires : tie.Need-fits-at-requires
 fits-at-requires c κs =
     let s = H (c .before .before .before .before .before .before .before .before .before) in
-    let n = c .before .before .count3 .ensures .0 in
-    let o = c .count4 .ensures .0 in
+    let n = c .before .before .wide3 .ensures .0 in
+    let o = c .wide4 .ensures .0 in
     (omega (arith, scope-value _ _ (s .pre .2)), omega (arith, scope-offset _ _ (s .pre .2)))
 
 returns-4 : tie.Need-returns-4
@@ -117,20 +117,20 @@ returns-4 c =
     let e = c .before .before .before .before .before in
     let s = H (e .before .before .before .before .before) in
     c .fits-at .ensures
-    ∙ ap₂ (λ (n o : ℕ). fitsAt (bytesAt (s .args .device .now) (s .args .a + 8) n) o (s .args .key .now)) (c .before .before .before .count3 .ensures .0) (c .before .count4 .ensures .0)
+    ∙ ap₂ (λ (n o : ℕ). fitsAt (bytesAt (s .args .device .now) (s .args .a + 8) n) o (s .args .key .now)) (c .before .before .before .wide3 .ensures .0) (c .before .wide4 .ensures .0)
     ∙ goes-yes refl (past-tls (e .before)) (e .if3 .left)
 
 pub scope-grants-spec : {M : Type 1} → statement M
 scope-grants-spec =
     tie.close
     (tie.spec
-    add-count
-    element-copy-out-count
-    count-requires
+    add-wide
+    element-copy-out-wide
+    wide-requires
     mul-holds
-    add-count-2
-    element-copy-out-count-2
-    count-requires-2
+    add-wide-2
+    element-copy-out-wide-2
+    wide-requires-2
     add-holds
     holds-requires
     returns
@@ -140,10 +140,10 @@ scope-grants-spec =
     returns-2
     returns-3
     add-fits-at
-    add-count-3
-    element-copy-out-count-3
-    count-requires-3
-    element-copy-out-count-4
-    count-requires-4
+    add-wide-3
+    element-copy-out-wide-3
+    wide-requires-3
+    element-copy-out-wide-4
+    wide-requires-4
     fits-at-requires
     returns-4)

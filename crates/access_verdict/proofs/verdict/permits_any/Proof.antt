@@ -1,6 +1,6 @@
 use mathlib.Core.Path.{_∙_, sym, ap}
 use Rattle.access_record.specs.Table.{Acl}
-use Rattle.access_record.specs.Laws.{aclOf-at}
+use Rattle.access_record.specs.TableLaws.{aclOf-at}
 use Rattle.access_permission.specs.Permission.{permitsAny}
 use borrow.Author.Needs.{needs}
 use Rattle.access_verdict.proofs.verdict.permits_any.Statement.{statement}

@@ -1,6 +1,6 @@
 use mathlib.Core.Path.{_∙_, refl, sym}
 use borrow.Author.Tests.{not-true, not-false}
-use Rattle.access_record.specs.Laws.{stops, goes}
+use Rattle.access_record.specs.TableLaws.{stops, goes}
 use Rattle.access_permission.specs.Permission.{permitsRange}
 use borrow.Author.Needs.{needs}
 use Rattle.access_verdict.proofs.verdict.permits_range.Statement.{statement}

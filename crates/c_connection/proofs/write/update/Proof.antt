@@ -1,5 +1,5 @@
 use denote.Ref.{now}
-use Rattle.protocol_connection.specs.Means.{connectionOf}
+use Rattle.protocol_connection.specs.ConnectionOf.{connectionOf}
 use Rattle.c_connection.proofs.Steps.{both-written}
 use borrow.Author.Needs.{needs}
 use Rattle.c_connection.proofs.write.update.Statement.{statement}

@@ -25,16 +25,16 @@ wide-requires : tie.Need-wide-requires Inv-loop μ-loop
 wide-requires c κs = search needs
 
 mul-t13 : tie.Need-mul-t13 Inv-loop μ-loop
-mul-t13 c = let a = c .before .before .before .before .before .before .before .args in let o = c .before .before .before .before .before .loop in let h = product-small (now (a .s)) (a .at) (o .value) (o .place) (o .count) (o .i) (o .inv) (c .before .before .before .before .loop-test .taken) (c .wide .result) (omega (arith, c .wide .ensures, c .before .if2 .taken)) in record { fits = omega arith }
+mul-t13 c = let a = c .before .before .before .before .before .before .before .args in let o = c .before .before .before .before .before .loop in let h = product-small (now (a .s)) (a .at) (o .value) (o .place) (o .count) (o .i) (o .inv) (c .before .before .before .before .loop-test .taken) (c .wide .result) (omega (arith, c .wide .ensures .0, c .before .if2 .taken)) in record { fits = omega arith }
 
 add-t14 : tie.Need-add-t14 Inv-loop μ-loop
-add-t14 c = let a = c .before .before .before .before .before .before .before .args in let o = c .before .before .before .before .before .loop in let h = product-small (now (a .s)) (a .at) (o .value) (o .place) (o .count) (o .i) (o .inv) (c .before .before .before .before .loop-test .taken) (c .wide .result) (omega (arith, c .wide .ensures, c .before .if2 .taken)) in let p = place-small (now (a .s)) (a .at) (o .value) (o .place) (o .count) (o .i) (o .inv) (c .before .before .before .before .loop-test .taken) in record { fits = omega (arith, o .inv .low) }
+add-t14 c = let a = c .before .before .before .before .before .before .before .args in let o = c .before .before .before .before .before .loop in let h = product-small (now (a .s)) (a .at) (o .value) (o .place) (o .count) (o .i) (o .inv) (c .before .before .before .before .loop-test .taken) (c .wide .result) (omega (arith, c .wide .ensures .0, c .before .if2 .taken)) in let p = place-small (now (a .s)) (a .at) (o .value) (o .place) (o .count) (o .i) (o .inv) (c .before .before .before .before .loop-test .taken) in record { fits = omega (arith, o .inv .low) }
 
 add-t15 : tie.Need-add-t15 Inv-loop μ-loop
 add-t15 c = search needs
 
 returns-2 : tie.Need-returns-2 Inv-loop μ-loop
-returns-2 c = let a = c .before .before .before .before .before .before .before .args in let o = c .before .before .before .before .before .loop in (partial-last (now (a .s)) (a .at) (o .value) (o .place) (o .count) (o .i) (o .inv) (c .before .before .before .before .loop-test .taken) (c .before .before .before .if1 .left) (c .wide .ensures) (c .before .if2 .taken), omega (arith, o .inv .here))
+returns-2 c = let a = c .before .before .before .before .before .before .before .args in let o = c .before .before .before .before .before .loop in (partial-last (now (a .s)) (a .at) (o .value) (o .place) (o .count) (o .i) (o .inv) (c .before .before .before .before .loop-test .taken) (c .before .before .before .if1 .left) (c .wide .ensures .0) (c .before .if2 .taken), omega (arith, o .inv .here))
 
 wide-requires-2 : tie.Need-wide-requires-2 Inv-loop μ-loop
 wide-requires-2 c κs = search needs
@@ -58,7 +58,7 @@ loop-less : tie.Need-loop-less Inv-loop μ-loop
 loop-less c = omega arith
 
 loop-again : tie.Need-loop-again Inv-loop μ-loop
-loop-again c = let a = c .before .before .before .before .before .before .before .args in let o = c .before .before .before .before .before .loop in partial-more (now (a .s)) (a .at) (o .value) (o .place) (o .count) (o .i) (o .inv) (c .before .before .before .before .loop-test .taken) (c .before .before .before .if1 .left) (c .wide2 .ensures) (c .before .if2 .left)
+loop-again c = let a = c .before .before .before .before .before .before .before .args in let o = c .before .before .before .before .before .loop in partial-more (now (a .s)) (a .at) (o .value) (o .place) (o .count) (o .i) (o .inv) (c .before .before .before .before .loop-test .taken) (c .before .before .before .if1 .left) (c .wide2 .ensures .0) (c .before .if2 .left)
 
 tenth-byte-requires : tie.Need-tenth-byte-requires Inv-loop μ-loop
 tenth-byte-requires c κs = let a = c .before .before .before .args in let o = c .before .loop in nine-low (now (a .s)) (a .at) (o .value) (o .place) (o .count) (o .i) (o .inv) (c .loop-test .left)

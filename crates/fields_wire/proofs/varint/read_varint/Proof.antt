@@ -18,7 +18,7 @@ add-t9 : tie.Need-add-t9
 add-t9 c = search needs
 
 returns-2 : tie.Need-returns-2
-returns-2 c = let a = c .before .before .before .before .before .args in (one-byte (now (a .s)) (a .at) (c .before .before .before .if1 .left) (c .wide .ensures) (c .before .if2 .taken), omega arith)
+returns-2 c = let a = c .before .before .before .before .before .args in (one-byte (now (a .s)) (a .at) (c .before .before .before .if1 .left) (c .wide .ensures .0) (c .before .if2 .taken), omega arith)
 
 long-varint-requires : tie.Need-long-varint-requires
 long-varint-requires c κs = search needs

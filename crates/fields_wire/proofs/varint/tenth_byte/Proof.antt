@@ -15,16 +15,16 @@ wide-requires : tie.Need-wide-requires
 wide-requires c κs = search needs
 
 mul-t10 : tie.Need-mul-t10
-mul-t10 c = record { fits = omega (arith, c .wide .ensures, c .before .if2 .taken) }
+mul-t10 c = record { fits = omega (arith, c .wide .ensures .0, c .before .if2 .taken) }
 
 add-t11 : tie.Need-add-t11
-add-t11 c = record { fits = omega (arith, c .wide .ensures, c .before .if2 .taken) }
+add-t11 c = record { fits = omega (arith, c .wide .ensures .0, c .before .if2 .taken) }
 
 add-t12 : tie.Need-add-t12
 add-t12 c = search needs
 
 returns-2 : tie.Need-returns-2
-returns-2 c = let a = c .before .before .before .before .before .args in (tenth-is (now (a .s)) (a .at) (a .low) (c .before .before .before .if1 .left) (c .wide .ensures) (c .before .if2 .taken), omega arith)
+returns-2 c = let a = c .before .before .before .before .before .args in (tenth-is (now (a .s)) (a .at) (a .low) (c .before .before .before .if1 .left) (c .wide .ensures .0) (c .before .if2 .taken), omega arith)
 
 returns-3 : tie.Need-returns-3
 returns-3 c = let a = c .before .before .before .before .args in (tenth-wrong (now (a .s)) (a .at) (a .low) (c .before .before .if1 .left) (c .if2 .left), tt)

@@ -1,5 +1,5 @@
 use mathlib.Core.Path.{sym, ap₂}
-use Rattle.operation_put.specs.DeleteGiven.{deleteCode}
+use Rattle.operation_put.specs.DeleteCode.{deleteCode}
 use borrow.Author.Needs.{needs}
 use Rattle.operation_put.proofs.delete.delete_code.Statement.{statement}
 use Rattle.operation_put.proofs.delete.delete_code.Tie as tie

@@ -1,7 +1,7 @@
 use mathlib.Core.Path.{sym, _∙_}
 use denote.Ref.{now}
 use borrow.Author.Tests.{not-true, not-false}
-use Rattle.operation_put.specs.Changes.{put-wrong, put-right}
+use Rattle.operation_put.specs.PutLaws.{put-wrong, put-right}
 use borrow.Author.Needs.{needs}
 use Rattle.operation_put.proofs.put.put.Statement.{statement}
 use Rattle.operation_put.proofs.put.put.Tie as tie

@@ -1,5 +1,5 @@
 use mathlib.Core.Path.{sym, ap}
-use Rattle.operation_put.specs.PutGiven.{putCode}
+use Rattle.operation_put.specs.PutCode.{putCode}
 use borrow.Author.Needs.{needs}
 use Rattle.operation_put.proofs.put.put_code.Statement.{statement}
 use Rattle.operation_put.proofs.put.put_code.Tie as tie

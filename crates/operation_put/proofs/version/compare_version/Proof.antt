@@ -1,12 +1,12 @@
 use mathlib.Core.Bool.{true, false}
 use Prim.Native.Nat.{ℕ, _+_, _-_}
 use lib.ListN.{take, drop}
-use Rattle.access_record.specs.Table.{sameBytes}
+use Rattle.base_definitions.specs.Lists.{sameBytes}
 use Rattle.store_layout.specs.Entries.{partOf}
 use mathlib.Core.Path.{_≡_, sym, ap, _∙_, subst}
 use denote.Ref.{now}
 use native.Mathlib.Omega.{arith}
-use Rattle.operation_get.specs.Given.{Inside, PartsInside}
+use Rattle.operation_get.specs.Shown.{Inside, PartsInside}
 use Rattle.operation_put.specs.VersionLaws.{version-found, version-none}
 use borrow.Author.Needs.{needs}
 use Rattle.operation_put.proofs.version.compare_version.Statement.{statement}

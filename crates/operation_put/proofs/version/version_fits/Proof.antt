@@ -1,6 +1,6 @@
 use mathlib.Core.Path.{sym, ap₂}
 use denote.Ref.{now}
-use Rattle.operation_put.specs.VersionGiven.{versionFits}
+use Rattle.operation_put.specs.VersionFound.{versionFits}
 use borrow.Author.Needs.{needs}
 use Rattle.operation_put.proofs.version.version_fits.Statement.{statement}
 use Rattle.operation_put.proofs.version.version_fits.Tie as tie

@@ -2,11 +2,10 @@ use native.Mathlib.Omega.{arith}
 use mathlib.Core.Path.{refl}
 use denote.Ref.{now}
 use Rattle.store_layout.specs.Store.{entriesOf}
-use Rattle.fields_write_bytes.specs.Pushed.{maybe}
 use Rattle.protocol.specs.Judge.{range}
-use Rattle.protocol.specs.Reply.{commandTree}
-use Rattle.reply_command.specs.Parts.{command-law}
-use Rattle.reply_envelope.specs.Frames.{no-value, signed-whole, copied}
+use Rattle.reply_command.specs.PartsLaws.{command-law}
+use Rattle.reply_command.specs.Repeated.{ackOf, commandTo}
+use Rattle.reply_envelope.specs.FramesLaws.{no-value, signed-whole, copied}
 use Rattle.operation_range.specs.Keys.{keysFrom}
 use borrow.Author.Needs.{needs}
 use Rattle.reply_range.proofs.whole.put_range.Statement.{statement}
@@ -54,13 +53,14 @@ same-length c = search needs
 returns : tie.Need-returns
 returns c =
     let a = c .before .before .before .before .before .before .before .before .before .before .before .before .before .before .before .before .before .before .before .before .before .args in
+    let to = a .reply-to in
     let end = c .before .before .before .before .before .before .before .finish in
     let body = range (keysFrom (a .reverse) (a .first) (a .count) (entriesOf (now (a .store)))) in
-    let command = command-law (a .connection) (maybe (a .ack)) (a .kind) body 1 (c .before .before .before .before .before .before .before .before .before .before .push-header .ensures .0)
+    let command = command-law (to .connection) (ackOf to) (to .kind) body 1 (c .before .before .before .before .before .before .before .before .before .before .push-header .ensures .0)
     (c .before .before .before .before .before .before .before .before .before .before .before .before .before .push-range .ensures .0)
     (c .before .before .before .before .before .before .before .before .before .before .before .before .before .before .before .before .push-status .ensures .0) in
     copied (end .last .0) (end .result) 3072 (omega arith)
-    (signed-whole (commandTree (a .connection) (maybe (a .ack)) (a .kind) body 1) _ (end .ensures .0) command (no-value 3072 _ refl))
+    (signed-whole (commandTo to body 1) _ (end .ensures .0) command (no-value 3072 _ refl))
     (c .before .before .copy .ensures)
 
 pub put-range-spec : {M : Type 1} → statement M

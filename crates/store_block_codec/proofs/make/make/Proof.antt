@@ -4,7 +4,9 @@ use mathlib.Core.List.{_++_}
 use lib.ListN.{length, replicate}
 use Rattle.store_block.specs.Entry.{Entry, entry}
 use Rattle.store_block.specs.Block.{head}
-use Rattle.store_block_codec.specs.Built.{Built, built-head, built-more, written, sealed}
+use Rattle.store_block_codec.specs.Built.{Built}
+use Rattle.store_block_codec.specs.BuiltLaws.{built-head, built-more, sealed}
+use Rattle.store_block_codec.specs.Built.{written}
 use borrow.Author.Needs.{needs}
 use Rattle.store_block_codec.proofs.make.make.Statement.{statement}
 use Rattle.store_block_codec.proofs.make.make.Tie as tie
@@ -34,7 +36,7 @@ g3 c = let f = S3 c .pre in built-more 88 (E (S3 c) .tag) (g2 (c .before .before
 abbrev S4 : tie.After-copy4 → tie.Start
 S4 c = S3 (c .before .before .before)
 
-g4 : (c : tie.After-copy4) → Built (120 + length (E (S4 c) .value)) (written (E (S4 c)) (S4 c .pre)) (c .copy4 .last .0)
+g4 : (c : tie.After-copy4) → Built (120 + length (E (S4 c) .value)) (written (E (S4 c))) (c .copy4 .last .0)
 g4 c = let f = S4 c .pre in built-more 120 (E (S4 c) .value) (g3 (c .before .before .before)) (c .copy4 .ensures) (omega arith) (omega arith)
 
 -- src/lib.rt:104:5

@@ -2,8 +2,8 @@ use Prim.Native.Nat.{ℕ}
 use mathlib.Core.Path.{_∙_, ap}
 use mathlib.Core.List.{_++_}
 use lib.ListN.{take}
-use Rattle.store_block.specs.Block.{be32}
-use Rattle.store_block_codec.specs.Built.{last-set}
+use Rattle.base_definitions.specs.BigEndian.{be32}
+use Rattle.store_block_codec.specs.BuiltLaws.{last-set}
 use borrow.Author.Needs.{needs}
 use Rattle.store_block_codec.proofs.make.seal.Statement.{statement}
 use Rattle.store_block_codec.proofs.make.seal.Tie as tie

@@ -1,7 +1,7 @@
 use borrow.Author.Needs.{needs}
 use borrow.Author.Tests.{not-true, not-false}
-use Rattle.store_block.specs.Decides.{says-no, decides-by}
-use Rattle.store_block.specs.Direct.{good-sum}
+use Rattle.store_block.specs.DecidesLaws.{says-no, decides-by}
+use Rattle.store_block.specs.DirectLaws.{good-sum}
 use Rattle.store_block_codec.proofs.rules.good.Statement.{statement}
 use Rattle.store_block_codec.proofs.rules.good.Tie as tie
 

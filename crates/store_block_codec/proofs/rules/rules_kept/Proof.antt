@@ -4,9 +4,10 @@ use mathlib.Core.Path.{_≡_}
 use mathlib.Core.List.{List}
 use lib.ListN.{getD}
 use borrow.Author.Tests.{not-true, not-false}
-use Rattle.store_block.specs.Decides.{given-yes, given-no}
+use Rattle.store_block.specs.DecidesLaws.{given-yes, given-no}
 use Rattle.store_block.specs.Block.{BlockGood}
-use Rattle.store_block.specs.Direct.{Small, small-of, Direct, direct, direct-good}
+use Rattle.store_block.specs.Direct.{Small, Direct}
+use Rattle.store_block.specs.DirectLaws.{small-of, direct, direct-good}
 use borrow.Author.Needs.{needs}
 use Rattle.store_block_codec.proofs.rules.rules_kept.Statement.{statement}
 use Rattle.store_block_codec.proofs.rules.rules_kept.Tie as tie

@@ -3,8 +3,9 @@ use mathlib.Core.Bool.{true}
 use lib.ListN.{length}
 use borrow.Author.Tests.{not-true, not-false}
 use Rattle.store_layout.specs.Store.{blocksIn, sizeGood}
-use Rattle.store_layout.specs.Size.{SizeGood, size-decides}
-use Rattle.store_rescue.specs.Survey.{names, distinct, fits, put-right, store-refused, report-refused, done}
+use Rattle.store_layout.specs.Size.{SizeGood}
+use Rattle.store_layout.specs.SizeLaws.{size-decides}
+use Rattle.store_rescue.specs.SurveyLaws.{names, distinct, fits, put-right, store-refused, report-refused, done}
 use borrow.Author.Needs.{needs}
 use Rattle.store_rescue.proofs.rescue.rescue.Statement.{statement}
 use Rattle.store_rescue.proofs.rescue.rescue.Tie as tie

@@ -1,7 +1,8 @@
 use Prim.Native.Nat.{_-_, _≤_}
 use native.Mathlib.Omega.{arith}
 use Rattle.store_layout.specs.Store.{blocksIn}
-use Rattle.store_rescue.specs.Survey.{Surveying, surveying-start, surveying-more, surveyed}
+use Rattle.store_rescue.specs.Survey.{Surveying}
+use Rattle.store_rescue.specs.SurveyLaws.{surveying-start, surveying-more, surveyed}
 use Rattle.store_rescue.proofs.rescue.survey.Statement.{statement}
 use Rattle.store_rescue.proofs.rescue.survey.Tie as tie
 

@@ -8,7 +8,7 @@ use Rattle.store_rescue.specs.State.{stateOf}
 use Rattle.store_rescue.specs.StateLaws.{sound-good}
 use Rattle.store_order_table.specs.Table.{blockAt}
 use Rattle.store_rescue.specs.Rescue.{report}
-use Rattle.store_rescue.specs.Listed.{unsound}
+use Rattle.store_rescue.specs.ListedLaws.{unsound}
 use borrow.Author.Needs.{needs}
 use Rattle.store_rescue.proofs.rule.admit.Statement.{statement}
 use Rattle.store_rescue.proofs.rule.admit.Tie as tie

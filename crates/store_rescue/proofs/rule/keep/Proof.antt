@@ -5,11 +5,12 @@ use mathlib.Core.List.{List}
 use lib.ListN.{take, drop}
 use Rattle.store_block.specs.Entry.{Entry}
 use Rattle.store_block.specs.Block.{decode}
-use Rattle.store_layout.specs.Check.{key-at}
+use Rattle.store_layout.specs.CheckLaws.{key-at}
 use Rattle.store_layout.specs.Entries.{findIn}
 use Rattle.store_layout.specs.Store.{Sorted}
 use Rattle.store_order_table.specs.Table.{blockAt, entriesAt, Names}
-use Rattle.store_rescue.specs.Listed.{Judged, decode-at, in-store, gap-low, key-twice, key-new}
+use Rattle.store_rescue.specs.Listed.{Judged}
+use Rattle.store_rescue.specs.ListedLaws.{decode-at, in-store, gap-low, key-twice, key-new}
 use borrow.Author.Needs.{needs}
 use Rattle.store_rescue.proofs.rule.keep.Statement.{statement}
 use Rattle.store_rescue.proofs.rule.keep.Tie as tie

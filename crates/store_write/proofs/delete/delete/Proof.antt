@@ -2,7 +2,7 @@ use mathlib.Core.Path.{_≡_, _∙_, sym}
 use Rattle.store_layout.specs.declared.Found.the-variants.{At}
 use Rattle.store_layout.specs.Store.{entriesOf}
 use Rattle.store_layout.specs.Entries.{findIn}
-use Rattle.store_write.specs.Change.{delete-low, taken, kept}
+use Rattle.store_write.specs.ChangeLaws.{delete-low, taken, kept}
 use borrow.Author.Needs.{needs}
 use Rattle.store_write.proofs.delete.delete.Statement.{statement}
 use Rattle.store_write.proofs.delete.delete.Tie as tie

@@ -3,10 +3,10 @@ use native.Mathlib.Omega.{arith}
 use mathlib.Core.Path.{_≡_, _∙_, ap}
 use mathlib.Core.List.{List}
 use lib.ListN.{length, replicate}
-use Rattle.store_block.specs.Written.{over}
+use Rattle.store_block.specs.Over.{over}
 use Rattle.store_layout.specs.Store.{entriesOf}
 use Rattle.store_layout.specs.StoreLaws.{good-length, room}
-use Rattle.store_write.specs.Change.{removed}
+use Rattle.store_write.specs.ChangeLaws.{removed}
 use borrow.Author.Needs.{needs}
 use Rattle.store_write.proofs.delete.remove.Statement.{statement}
 use Rattle.store_write.proofs.delete.remove.Tie as tie

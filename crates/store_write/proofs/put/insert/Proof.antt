@@ -4,10 +4,10 @@ use mathlib.Core.Path.{_≡_, _∙_, ap}
 use mathlib.Core.List.{List}
 use lib.ListN.{length}
 use Rattle.store_block.specs.BlockLaws.{good-size}
-use Rattle.store_block.specs.Written.{over}
+use Rattle.store_block.specs.Over.{over}
 use Rattle.store_layout.specs.Store.{blocksIn, entriesOf}
 use Rattle.store_layout.specs.StoreLaws.{good-length, room}
-use Rattle.store_write.specs.Change.{full, opened, inserted}
+use Rattle.store_write.specs.ChangeLaws.{full, opened, inserted}
 use borrow.Author.Needs.{needs}
 use Rattle.store_write.proofs.put.insert.Statement.{statement}
 use Rattle.store_write.proofs.put.insert.Tie as tie

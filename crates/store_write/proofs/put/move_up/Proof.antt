@@ -3,8 +3,9 @@ use native.Mathlib.Omega.{arith}
 use native.Mathlib.Nat.{le-antisymm}
 use mathlib.Core.Path.{_≡_, _∙_, ap, refl, sym}
 use lib.ListN.{length, take, drop, length-set}
-use Rattle.store_block.specs.Written.{over, over-none}
-use Rattle.store_write.specs.Move.{up-more}
+use Rattle.store_block.specs.Over.{over}
+use Rattle.store_block.specs.OverLaws.{over-none}
+use Rattle.store_write.specs.MoveLaws.{up-more}
 use Rattle.store_write.proofs.put.move_up.Statement.{statement}
 use Rattle.store_write.proofs.put.move_up.Tie as tie
 

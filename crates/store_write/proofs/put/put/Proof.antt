@@ -7,12 +7,13 @@ use borrow.Author.Tests.{not-true, not-false}
 use Rattle.store_block.specs.Entry.{Entry, entry, Fit}
 use Rattle.store_block.specs.Block.{block, decode, BlockGood}
 use Rattle.store_block.specs.BlockLaws.{length-block, fit-good, good-fit, decode-own}
-use Rattle.store_block.specs.Written.{over}
+use Rattle.store_block.specs.Over.{over}
 use Rattle.store_layout.specs.declared.Found.the-variants.{At, Gap}
 use Rattle.store_layout.specs.Store.{entriesOf}
 use Rattle.store_layout.specs.StoreLaws.{good-length, room}
 use Rattle.store_layout.specs.Entries.{findIn}
-use Rattle.store_write.specs.Change.{insertStore, unfit, at-low, gap-low, replaced, put-in}
+use Rattle.store_write.specs.Change.{insertStore}
+use Rattle.store_write.specs.ChangeLaws.{unfit, at-low, gap-low, replaced, put-in}
 use borrow.Author.Needs.{needs}
 use Rattle.store_write.proofs.put.put.Statement.{statement}
 use Rattle.store_write.proofs.put.put.Tie as tie

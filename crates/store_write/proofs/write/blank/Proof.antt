@@ -1,6 +1,6 @@
 use mathlib.Core.Path.{_∙_}
 use lib.ListN.{length-replicate}
-use Rattle.store_block.specs.Written.{over-all}
+use Rattle.store_block.specs.OverLaws.{over-all}
 use borrow.Author.Needs.{needs}
 use Rattle.store_write.proofs.write.blank.Statement.{statement}
 use Rattle.store_write.proofs.write.blank.Tie as tie

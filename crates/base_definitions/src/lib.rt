@@ -1,0 +1,1 @@
+// Words that the definitions of every part share. No code.

@@ -1,0 +1,14 @@
+-- The code of steps 4 to 6 over what the code is given.
+use mathlib.Core.Bool.{cond}
+use mathlib.Core.List.{List}
+use mathlib.Core.Option.{Option, none, some}
+use Prim.Native.Nat.{ℕ}
+use lib.Dec.{eqb}
+use Rattle.access_record.specs.Record.{tableOf}
+use Rattle.judge_header.specs.HeaderFault.{inOrder}
+
+-- the code by what the code is given
+abbrev pub faultBy : List ℕ → ℕ → Option ℕ → Option ℕ → ℕ → Option ℕ → ℕ
+faultBy d v (some c) (some q) n l = cond (eqb v (tableOf d .clusterVersion)) (cond (inOrder n l c q) 0 16) 4
+faultBy d v (some c) none n l = 6
+faultBy d v none q n l = 6
