@@ -6,6 +6,7 @@ run:
 
 # What takes seconds first; then the toolchain's gate, whose line is the last.
 test:
+	tests/house
 	tests/expected
 	rt fmt --check
 	tests/gate
