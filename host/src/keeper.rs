@@ -18,6 +18,7 @@ struct Held {
     /// Changes that no one is writing yet, and those that someone is writing now.
     waiting: Option<Turn>,
     writing: Option<Turn>,
+    ended: bool,
 }
 
 pub struct Keeper {
@@ -37,7 +38,8 @@ pub struct Answers {
 
 impl Keeper {
     pub fn new(place: Place, image: Image) -> Keeper {
-        let held = Held { seen: image.clone(), on_disk: image.clone(), image, readings: [0; READINGS], waiting: None, writing: None };
+        let (seen, on_disk, readings) = (image.clone(), image.clone(), [0; READINGS]);
+        let held = Held { image, seen, on_disk, readings, waiting: None, writing: None, ended: false };
         Keeper { held: Mutex::new(held), written: Condvar::new(), place }
     }
 
@@ -50,10 +52,13 @@ impl Keeper {
         self.lock().readings = readings;
     }
 
-    /// Answers each whole request at the start of the input, and appends the replies.
-    pub fn answer(&self, connection: &mut [u8; CONNECTION], input: &[u8], replies: &mut Vec<u8>) -> Answers {
+    /// Answers each whole request at the start of the input, and appends the replies. None where nothing is answered any more.
+    pub fn answer(&self, connection: &mut [u8; CONNECTION], input: &[u8], replies: &mut Vec<u8>) -> Option<Answers> {
         let mut held = self.lock();
         let held = &mut *held;
+        if held.ended {
+            return None;
+        }
         let (mut taken, mut out) = (0, [0; REPLY]);
         let refusal = loop {
             let Image { record, store } = &mut held.image;
@@ -69,7 +74,7 @@ impl Keeper {
             held.seen.clone_from(&held.image);
             held.waiting.get_or_insert_default();
         }
-        Answers { taken, turn: held.waiting.clone().or(held.writing.clone()), refusal }
+        Some(Answers { taken, turn: held.waiting.clone().or(held.writing.clone()), refusal })
     }
 
     /// Whether what was answered is on disk. Who waits first writes for all that wait; false where the disk refused, and the changes were taken back.
@@ -80,10 +85,23 @@ impl Keeper {
             if let Some(kept) = turn.get() {
                 return *kept;
             }
-            held = match held.writing {
-                Some(_) => self.written.wait(held).unwrap_or_else(PoisonError::into_inner),
-                None => self.write(held),
-            };
+            held = self.wait_or_write(held);
+        }
+    }
+
+    /// Nothing is answered from here on; when this returns, nothing waits for the disk.
+    pub fn end(&self) {
+        let mut held = self.lock();
+        held.ended = true;
+        while held.waiting.is_some() || held.writing.is_some() {
+            held = self.wait_or_write(held);
+        }
+    }
+
+    fn wait_or_write<'a>(&'a self, held: MutexGuard<'a, Held>) -> MutexGuard<'a, Held> {
+        match held.writing {
+            Some(_) => self.written.wait(held).unwrap_or_else(PoisonError::into_inner),
+            None => self.write(held),
         }
     }
 

@@ -1,4 +1,4 @@
-//! The proved calls of include/ridgeladle.h. What the host owes them is kept here, and all `unsafe` of the program is in this file: each length is that of the
+//! The proved calls of include/ridgeladle.h. What the host owes them is kept here, and all `unsafe` of the program is in this file and in `system`: each length is that of the
 //! slice beside it, fixed lengths are those of arrays, and slices that Rust lends at once never overlap where one of them may be written.
 #![allow(unsafe_code)]
 

@@ -5,29 +5,29 @@ use crate::failure::{Failure, Result};
 use crate::image::{Image, Place};
 use crate::keeper::Keeper;
 use crate::library::{self, CONNECTION, MORE, MOST_FRAME};
+use crate::peers::{Peers, Seat};
 use crate::readings_file::ReadingsFile;
+use crate::system::EndSignals;
 use crate::text::print;
 use crate::{random, say};
 use std::ffi::OsString;
 use std::io::{self, ErrorKind, Read, Write};
 use std::net::{Shutdown, SocketAddr, TcpListener, TcpStream};
 use std::sync::Arc;
-use std::sync::atomic::{AtomicUsize, Ordering};
 use std::thread;
 use std::time::{Duration, Instant};
 
 pub const LISTEN: &str = "127.0.0.1:8123";
 const CONNECTIONS: i64 = 64;
 const IDLE: i64 = 120;
-/// How long a closing reply may take to reach a peer that is still sending.
+/// How long a closing reply may take to reach a peer that is still sending, and the last replies of a server that ends.
 const FAREWELL: Duration = Duration::from_secs(2);
 /// Of a connection's thread: the library takes under 10 KB, the input and a reply under 30.
 const STACK: usize = 256 << 10;
 
 struct Server {
     keeper: Keeper,
-    open: AtomicUsize,
-    most: usize,
+    peers: Arc<Peers>,
     idle: Duration,
 }
 
@@ -37,24 +37,27 @@ pub fn run(words: &[OsString]) -> Result<()> {
     let path = arguments.path("image")?;
     let most = arguments.number("connections", 1, 4096, CONNECTIONS)? as usize;
     let idle = Duration::from_secs(arguments.number("idle", 1, 86400, IDLE)? as u64);
+    let signals = EndSignals::hold_back().map_err(Failure::system)?;
     let place = Place::take(&path)?;
     let image = Image::open(&path)?;
     let used = format!("{} of {} blocks used", image.used(), image.blocks());
     let plain = listener(arguments.words("listen")?.unwrap_or(LISTEN))?;
     let protected = arguments.words("protected-listen")?.map(listener).transpose()?;
-    let server = Arc::new(Server { keeper: Keeper::new(place, image), open: AtomicUsize::new(0), most, idle });
+    let server = Arc::new(Server { keeper: Keeper::new(place, image), peers: Peers::new(most), idle });
     if let Some(path) = arguments.option("readings") {
         let (server, mut file) = (server.clone(), ReadingsFile::new(path.into()));
         file.look(&server.keeper);
         start(move || file.follow(&server.keeper))?;
     }
     print(format!("serving {} on {}, {used}\n", path.display(), local(&plain)?))?;
+    server.clone().listen(plain, false)?;
     if let Some(listener) = protected {
         print(format!("serving protected on {}\n", local(&listener)?))?;
-        let server = server.clone();
-        start(move || server.accept(&listener, true))?;
+        server.clone().listen(listener, true)?;
     }
-    server.accept(&plain, false)
+    say(format!("ends by {}", signals.wait()));
+    server.end();
+    Ok(())
 }
 
 fn listener(address: &str) -> Result<TcpListener> {
@@ -78,6 +81,17 @@ enum End {
 }
 
 impl Server {
+    fn listen(self: Arc<Server>, listener: TcpListener, protected: bool) -> Result<()> {
+        start(move || self.accept(&listener, protected))
+    }
+
+    /// What was answered goes to disk, and its replies to those who take them.
+    fn end(&self) {
+        self.peers.end();
+        self.keeper.end();
+        self.peers.wait(FAREWELL);
+    }
+
     fn accept(self: &Arc<Server>, listener: &TcpListener, protected: bool) -> ! {
         loop {
             match listener.accept() {
@@ -91,12 +105,12 @@ impl Server {
     }
 
     fn admit(self: &Arc<Server>, stream: TcpStream, peer: SocketAddr, protected: bool) {
-        let place = Counted::new(self.clone());
-        if place.number > self.most {
-            return say(format!("{peer}: closed, {} connections are open already", self.most));
-        }
+        let Some(seat) = self.peers.admit(stream) else {
+            return say(format!("{peer}: closed, as many connections as may be are open already"));
+        };
+        let server = self.clone();
         let work = move || {
-            match place.server.converse(&stream, protected) {
+            match server.converse(&seat, protected) {
                 Ok(End::Left) => (),
                 Ok(End::Closed) => say(format!("{peer}: closed by the box: no frame, or no message that is signed right")),
                 Ok(End::Said(words)) => say(format!("{peer}: {words}")),
@@ -108,7 +122,8 @@ impl Server {
         }
     }
 
-    fn converse(&self, stream: &TcpStream, protected: bool) -> io::Result<End> {
+    fn converse(&self, seat: &Seat, protected: bool) -> io::Result<End> {
+        let stream = &seat.stream;
         stream.set_nodelay(true)?;
         let mut connection = library::connect(random::number()? as i64, protected);
         let (mut input, mut filled) = ([0; 2 * MOST_FRAME], 0);
@@ -124,7 +139,7 @@ impl Server {
             replies.clear();
             let taken = match self.turn(&mut connection, &input[..filled], &mut replies) {
                 Ok(taken) => taken,
-                Err(words) => return Ok(End::Said(words)),
+                Err(end) => return Ok(end),
             };
             if !write_until(stream, &replies, Instant::now() + self.idle)? {
                 return Ok(End::Said(format!("closed, it took no reply in {} s", self.idle.as_secs())));
@@ -141,13 +156,13 @@ impl Server {
     }
 
     /// Answers what has come whole; the replies may be sent when this returns, and so many bytes of the input are taken.
-    fn turn(&self, connection: &mut [u8; CONNECTION], input: &[u8], replies: &mut Vec<u8>) -> std::result::Result<usize, String> {
-        let answers = self.keeper.answer(connection, input, replies);
+    fn turn(&self, connection: &mut [u8; CONNECTION], input: &[u8], replies: &mut Vec<u8>) -> std::result::Result<usize, End> {
+        let answers = self.keeper.answer(connection, input, replies).ok_or(End::Left)?;
         if answers.refusal != MORE && !library::closed(connection) {
-            return Err(format!("closed, the box refuses to answer ({})", answers.refusal));
+            return Err(End::Said(format!("closed, the box refuses to answer ({})", answers.refusal)));
         }
         if !self.keeper.settle(&answers) {
-            return Err("closed with no reply, the disk refused".into());
+            return Err(End::Said("closed with no reply, the disk refused".into()));
         }
         Ok(answers.taken)
     }
@@ -195,23 +210,4 @@ fn farewell(stream: &TcpStream) -> io::Result<()> {
     stream.shutdown(Shutdown::Write)?;
     while read_until(stream, &mut bin, deadline)?.is_some_and(|read| read > 0) {}
     Ok(())
-}
-
-/// A connection that is open, counted until it is dropped.
-struct Counted {
-    server: Arc<Server>,
-    number: usize,
-}
-
-impl Counted {
-    fn new(server: Arc<Server>) -> Counted {
-        let number = server.open.fetch_add(1, Ordering::Relaxed) + 1;
-        Counted { server, number }
-    }
-}
-
-impl Drop for Counted {
-    fn drop(&mut self) {
-        self.server.open.fetch_sub(1, Ordering::Relaxed);
-    }
 }

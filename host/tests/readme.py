@@ -3,7 +3,7 @@ import os
 import re
 import subprocess
 
-from held import hold, same
+from held import PATIENCE, hold, same
 from program import TOP
 
 
@@ -29,7 +29,7 @@ def readme(site):
         elif words.startswith("export "):
             exports += words + "; "
         else:
-            done = subprocess.run(["bash", "-c", exports + words], capture_output=True, text=True, timeout=10, cwd=site.folder, env=given, check=False)
+            done = subprocess.run(["bash", "-c", exports + words], capture_output=True, text=True, timeout=PATIENCE, cwd=site.folder, env=given, check=False)
             same(f"what is printed by {words}", done.stdout + done.stderr, said)
     hold("the session has the commands that are looked for", len(steps) > 10)
     return f"{len(steps)} steps of the session print what README.md says"

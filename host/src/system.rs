@@ -1,0 +1,49 @@
+//! The system's calls that Rust's library lacks. All `unsafe` that is not in `library` is in this file: each call gets a signal set or a number of its own.
+#![allow(unsafe_code)]
+
+use std::io;
+
+const SIGINT: i32 = 2;
+const SIGTERM: i32 = 15;
+const SIG_BLOCK: i32 = 0;
+
+/// A `sigset_t`: 1,024 bits on Linux.
+#[repr(C)]
+struct SignalSet([u64; 16]);
+
+unsafe extern "C" {
+    fn signal(number: i32, handler: usize) -> usize;
+    fn sigaddset(set: *mut SignalSet, number: i32) -> i32;
+    fn pthread_sigmask(how: i32, set: *const SignalSet, old: *mut SignalSet) -> i32;
+    fn sigwait(set: *const SignalSet, number: *mut i32) -> i32;
+}
+
+extern "C" fn never_called(_: i32) {}
+
+/// SIGINT and SIGTERM, held back from the threads that are started after this, until someone waits for them.
+pub struct EndSignals(SignalSet);
+
+impl EndSignals {
+    /// The handler is never called, since the signals are held back. It is there because a signal without one is dropped in process 1, and so is one that
+    /// whoever started this process ignores.
+    pub fn hold_back() -> io::Result<EndSignals> {
+        let mut set = SignalSet([0; 16]);
+        for number in [SIGINT, SIGTERM] {
+            unsafe {
+                signal(number, never_called as *const () as usize);
+                sigaddset(&mut set, number);
+            }
+        }
+        match unsafe { pthread_sigmask(SIG_BLOCK, &set, std::ptr::null_mut()) } {
+            0 => Ok(EndSignals(set)),
+            number => Err(io::Error::from_raw_os_error(number)),
+        }
+    }
+
+    /// The name of the signal that came.
+    pub fn wait(&self) -> &'static str {
+        let mut number = 0;
+        while unsafe { sigwait(&self.0, &mut number) } != 0 {}
+        if number == SIGINT { "SIGINT" } else { "SIGTERM" }
+    }
+}
