@@ -9,7 +9,11 @@ use std::io::{self, ErrorKind, Write};
 use std::os::unix::fs::OpenOptionsExt;
 use std::path::{Path, PathBuf};
 
-const MAGIC: [u8; 8] = *b"RLADLE\0\x01";
+/// The layout's number is the eighth byte. Layout 1, which is only read, has zeros for the number of used blocks and for the seal.
+const MAGIC: [u8; 7] = *b"RLADLE\0";
+const LAYOUT: u8 = 2;
+/// The first bytes of the digest of the head before it.
+const SEAL: usize = 56;
 const HEAD: usize = 64;
 const STORE: usize = HEAD + RECORD;
 
@@ -24,8 +28,17 @@ pub struct Found {
     pub image: Image,
     /// Whether the record is what was written; a wrong bit may be a key or a permission.
     pub record_sound: bool,
+    /// How many readings were written, where the head says so and is what was written.
+    pub used: Option<usize>,
     /// What is wrong with the file, in words.
     pub damage: Vec<String>,
+}
+
+/// What a head says that is one.
+struct Head {
+    blocks: usize,
+    /// None in layout 1.
+    used: Option<usize>,
 }
 
 impl Image {
@@ -59,11 +72,12 @@ impl Image {
     fn bytes(&self) -> Vec<u8> {
         let mut bytes = Vec::with_capacity(STORE + self.store.len());
         bytes.extend(MAGIC);
+        bytes.push(LAYOUT);
         bytes.extend((self.blocks() as u32).to_be_bytes());
-        bytes.extend([0; 4]);
+        bytes.extend((self.used() as u32).to_be_bytes());
         bytes.extend(digest(&self.record));
         bytes.extend(digest(&self.store));
-        bytes.resize(HEAD, 0);
+        bytes.extend(seal(&bytes));
         bytes.extend(self.record);
         bytes.extend(&self.store);
         bytes
@@ -75,35 +89,59 @@ fn digest(text: &[u8]) -> [u8; 20] {
     library::sha1(text).unwrap_or_default()
 }
 
+fn seal(head: &[u8]) -> [u8; HEAD - SEAL] {
+    let mut seal = [0; HEAD - SEAL];
+    seal.copy_from_slice(&digest(&head[..SEAL])[..HEAD - SEAL]);
+    seal
+}
+
+impl Head {
+    fn read(bytes: &[u8; HEAD]) -> Option<Head> {
+        let number = |at: usize| bytes[at..at + 4].iter().fold(0, |number, byte| number << 8 | usize::from(*byte));
+        let (blocks, used) = (number(8), number(12));
+        let used = match bytes[7] {
+            LAYOUT if bytes[SEAL..] == seal(bytes) && used <= blocks => Some(used),
+            1 if bytes[SEAL..] == [0; HEAD - SEAL] && used == 0 => None,
+            _ => return None,
+        };
+        (bytes[..7] == MAGIC && (1..=MOST_BLOCKS).contains(&blocks)).then_some(Head { blocks, used })
+    }
+}
+
 impl Found {
     pub fn read(path: &Path) -> Result<Found> {
-        let bytes = input::file(path, STORE + MOST_BLOCKS * BLOCK)?;
-        Found::judge(&bytes).ok_or_else(|| Failure::data(format!("{} is not an image of a box", path.display())))
+        let (bytes, length) = input::regular_start(path, STORE + MOST_BLOCKS * BLOCK)?;
+        Found::judge(&bytes, length).ok_or_else(|| Failure::data(format!("{} is not an image of a box", path.display())))
     }
 
-    /// None where neither the head nor the length is that of an image. Of the blocks that the head says and those that are there, none is left out.
-    fn judge(bytes: &[u8]) -> Option<Found> {
-        let (head, rest) = bytes.split_at_checked(HEAD)?;
-        let (record, store) = rest.split_at_checked(RECORD)?;
-        let said = u32::from_be_bytes(head[8..12].try_into().ok()?) as usize;
-        let head_good = head[..8] == MAGIC && (1..=MOST_BLOCKS).contains(&said) && head[12..16] == [0; 4] && head[56..] == [0; 8];
-        let there = store.len().div_ceil(BLOCK);
-        let blocks = if head_good { said.max(there) } else { there };
-        if !(1..=MOST_BLOCKS).contains(&blocks) || !head_good && store.len() % BLOCK != 0 {
-            return None;
-        }
-        let mut image = Image { record: record.try_into().ok()?, store: store.to_vec() };
+    /// None where neither the head nor the length is that of an image. A head of layout 1 may say a wrong number of blocks: of those that it says and those
+    /// that are there, none is left out.
+    fn judge(bytes: &[u8], length: u64) -> Option<Found> {
+        let (head, rest) = bytes.split_first_chunk::<HEAD>()?;
+        let (record, store) = rest.split_first_chunk::<RECORD>()?;
+        let (said, there) = (Head::read(head), store.len().div_ceil(BLOCK));
+        let blocks = match said {
+            Some(Head { blocks, used: Some(_) }) => blocks,
+            Some(Head { blocks, used: None }) => blocks.max(there),
+            None if length == (STORE + there * BLOCK) as u64 && there > 0 => there,
+            None => return None,
+        };
+        let used = said.as_ref().and_then(|head| head.used);
+        let wanted = said.map(|head| (STORE + head.blocks * BLOCK) as u64);
+        let mut image = Image { record: *record, store: store.to_vec() };
         image.store.resize(blocks * BLOCK, 0);
-        let record_sound = digest(record) == head[16..36] && library::record_good(&image.record);
+        let record_sound = digest(record) == head[16..36] && library::record_good(record);
+        let store_sound = digest(&image.store) == head[36..56];
         let faults = [
-            (!head_good, "its head is not an image's".to_string()),
-            (head_good && store.len() != said * BLOCK, format!("it has {} bytes of {}", bytes.len(), STORE + said * BLOCK)),
+            (wanted.is_none(), "its head is not an image's".to_string()),
+            (wanted.is_some_and(|wanted| wanted != length), format!("it has {length} bytes of {}", wanted.unwrap_or_default())),
             (!record_sound, "the device record is not what was written".to_string()),
-            (head_good && digest(&image.store) != head[36..56], "the store is not what was written".to_string()),
+            (wanted.is_some() && !store_sound, "the store is not what was written".to_string()),
+            (store_sound && used.is_some_and(|used| used != image.used()), "its head has another number of used blocks".to_string()),
             (!library::store_good(&image.store), "a block breaks a rule".to_string()),
         ];
         let damage = faults.into_iter().filter(|(is, _)| *is).map(|(_, words)| words).collect();
-        Some(Found { image, record_sound, damage })
+        Some(Found { image, record_sound, used, damage })
     }
 }
 

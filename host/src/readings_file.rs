@@ -1,5 +1,6 @@
 //! The file of readings (docs/OPERATING.md, "Readings"), as the 134 bytes that are lent to the box.
 
+use crate::failure::Failure;
 use crate::input;
 use crate::keeper::Keeper;
 use crate::library::READINGS;
@@ -27,7 +28,7 @@ impl ReadingsFile {
 
     /// Lends what the file says, if it says something new. What is bad is said once, and changes nothing.
     pub fn look(&mut self, keeper: &Keeper) {
-        let text = input::file(&self.path, MOST_FILE).map_err(|why| why.message);
+        let text = self.text().map_err(|why| why.message);
         if self.last.as_ref() == Some(&text) {
             return;
         }
@@ -36,6 +37,14 @@ impl ReadingsFile {
             Err(why) => say(format!("{why}; the readings stay as they were")),
         }
         self.last = Some(text);
+    }
+
+    fn text(&self) -> crate::failure::Result<Vec<u8>> {
+        let (text, length) = input::regular_start(&self.path, MOST_FILE)?;
+        if length > MOST_FILE as u64 {
+            return Err(Failure::data(format!("{}: over {MOST_FILE} bytes", self.path.display())));
+        }
+        Ok(text)
     }
 
     pub fn follow(mut self, keeper: &Keeper) -> ! {

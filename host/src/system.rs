@@ -3,6 +3,9 @@
 
 use std::io;
 
+/// Flags of opening a file, on x86-64.
+pub const O_NONBLOCK: i32 = 0o4000;
+
 const SIGINT: i32 = 2;
 const SIGTERM: i32 = 15;
 const SIG_BLOCK: i32 = 0;

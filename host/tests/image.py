@@ -1,5 +1,6 @@
 """The image: made, shown, and refused where it is not whole; one server for each."""
 import csv
+import hashlib
 import io
 import os
 import pathlib
@@ -10,7 +11,7 @@ import layout
 import model
 from held import hold, same
 from program import KEY
-from wire import Client, all_scope
+from wire import Client, all_scope, pair
 
 ALGORITHMS = ["", "SHA1", "SHA2", "SHA3", "CRC32C", "CRC64", "CRC32"]
 HEAD = ["place", "key", "version", "tag", "algorithm", "value"]
@@ -122,10 +123,19 @@ def damages(data):
     yield "the last block gone", data[:-512], True
     yield "one byte too many", data + b"\0", True
     yield "one block too many", data + bytes(512), True
+    yield "bytes after the last block of a full image", layout.image_of(box_of(blocks=128)) + b"litter", True
+    yield "another number of used blocks", resealed(data[:12] + bytes([0, 0, 0, 5]) + data[16:]), True
+    yield "more used blocks than there are", resealed(data[:12] + bytes([0, 0, 0, 10]) + data[16:]), True
+    yield "an unknown layout", resealed(data[:7] + b"\3" + data[8:]), True
     yield "cut in the record", data[:2000], False
     yield "cut in the head", data[:30], False
     yield "empty", b"", False
     yield "another file", b"Dear office,\n" * 1000, False
+
+
+def resealed(data):
+    """An image whose head's digest is right again."""
+    return data[:56] + hashlib.sha1(data[:56]).digest()[:8] + data[64:]
 
 
 def image_refused(site):
@@ -177,4 +187,30 @@ def image_one(site):
     return "4 names of one image, rescue and format beside a server, 2 ports in use, 6 wrong words: refused, and the first goes on"
 
 
-TESTS = [image_format, image_show, image_refused, image_one]
+OLDER = pathlib.Path(__file__).resolve().parent / "data" / "layout1.img"
+OLDER_ENTRIES = [model.Entry(b"timer/7/10:00:30", b"1", b"", 0, b"WBGT 31.4 C, work 30 min, rest 30 min"),
+                 model.Entry(b"timer/7/10:01:00", b"", b"\0\xff", 6, b"WBGT 31.6 C, work 15 min, rest 45 min")]
+
+
+def image_older(site):
+    """An image that an earlier program wrote (layout 1): shown and served as it is, written as layout 2 at the next change, and nothing of it is lost."""
+    data = OLDER.read_bytes()
+    path, box = site.write("box.image", data), layout.box_of(data, 1)
+    same("its entries", model.entries_of(box.store), OLDER_ENTRIES)
+    same("its cluster version and identities", (model.table_of(box.record).cluster, [acl.identity for acl in model.table_of(box.record).acls]), (3, [1, 7]))
+    shown_csv(site, path, OLDER_ENTRIES, "of layout 1")
+    server = site.serve(path)
+    same("blocks that the server names", (server.used, server.blocks), (2, 4))
+    with Client(server.address, box) as client:
+        for entry in OLDER_ENTRIES:
+            same("code of a GET", client.ask("GET", pair(entry.key)), 1)
+        same("the file before a change", path.read_bytes(), data)
+        same("code of a PUT", client.put(b"timer/7/10:01:30", b"WBGT 31.7 C"), 1)
+    layout.same_image("after a PUT", path, box)
+    server.end()
+    with Client(site.serve(path).address, box) as client:
+        same("entries of the next server", [client.ask("GET", pair(entry.key)) for entry in OLDER_ENTRIES], [1, 1])
+    return "an image of layout 1 with 2 entries and 2 identities: shown, served, and written as layout 2 at a PUT"
+
+
+TESTS = [image_format, image_show, image_refused, image_older, image_one]

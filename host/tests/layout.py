@@ -5,22 +5,28 @@ import pathlib
 import model
 from held import Failed, hold, same
 
-MAGIC = b"RLADLE\0\1"
+MAGIC = b"RLADLE\0"
 RECORD_AT, STORE_AT = 64, 64 + model.RECORD
 
 
-def image_of(box):
+def used_of(store):
+    """The number of blocks that are not blank."""
+    return sum(any(store[at:at + model.BLOCK]) for at in range(0, len(store), model.BLOCK))
+
+
+def image_of(box, layout=2):
     """The bytes of the image that holds a model's box."""
     digests = hashlib.sha1(box.record).digest() + hashlib.sha1(box.store).digest()
-    head = MAGIC + (len(box.store) // model.BLOCK).to_bytes(4, "big") + bytes(4) + digests + bytes(8)
-    return head + box.record + box.store
+    used = used_of(box.store) if layout == 2 else 0
+    head = MAGIC + bytes([layout]) + (len(box.store) // model.BLOCK).to_bytes(4, "big") + used.to_bytes(4, "big") + digests
+    return head + (hashlib.sha1(head).digest()[:8] if layout == 2 else bytes(8)) + box.record + box.store
 
 
-def box_of(data):
+def box_of(data, layout=2):
     """The box that an image holds; fails where a digest, a length, the record or the store is wrong."""
     hold(f"an image of {len(data)} bytes", len(data) > STORE_AT)
     box = model.Box(data[STORE_AT:], data[RECORD_AT:STORE_AT])
-    same("head of the image", data[:RECORD_AT], image_of(box)[:RECORD_AT])
+    same("head of the image", data[:RECORD_AT], image_of(box, layout)[:RECORD_AT])
     hold("the record breaks an ACL rule", model.table_of(box.record) is not None)
     hold("the store breaks a block rule", model.entries_of(box.store) is not None)
     return box

@@ -1,4 +1,5 @@
 """`rescue`: the new image holds what the model's rescue keeps, under the same record; the old file is not lost."""
+import hashlib
 import pathlib
 import re
 
@@ -21,28 +22,36 @@ def with_store(box, store):
 
 
 def counts_of(words):
-    """The numbers of readings kept and lost, as the program says them."""
-    counts = re.search(r"(\d+)[^\n\d]*\bkept\b[^\n\d]*(\d+)[^\n\d]*\blost\b", words)
+    """The numbers of readings kept, lost, and gone without trace, as the program says them; None where it says that the last is not known."""
+    counts = re.search(r"(\d+)[^\n\d]*\bkept\b[^\n\d]*(\d+)[^\n\d]*\blost\b(?:[^\n\d]*(\d+)[^\n\d]*\bgone without trace\b)?", words)
     hold(f"no counts of kept and lost in {words[-300:]!r}", counts)
-    return int(counts[1]), int(counts[2])
+    unknown = "gone without trace is not known" in words
+    hold("a count that is not known", not (unknown and counts[3]))
+    return int(counts[1]), int(counts[2]), None if unknown else int(counts[3] or 0)
 
 
-def hold_account(words, report):
-    """The counts are the report's, and each place that was not blank is named."""
-    kept, lost = report.count(model.KEPT), sum(report.count(how) for how in (model.CHECK_WRONG, model.RULE_BROKEN, model.KEY_TWICE))
-    same("readings kept and lost, as it says", counts_of(words), (kept, lost))
+def hold_account(words, report, used):
+    """The counts are the report's, and each place that was not blank is named. `used` is how many readings there were, None where the head does not say."""
+    bad = [place for place, how in enumerate(report) if how in (model.CHECK_WRONG, model.RULE_BROKEN, model.KEY_TWICE)]
+    kept, lost = report.count(model.KEPT), sum(used is None or place < used for place in bad)
+    gone = None if used is None else max(0, used - kept - lost)
+    same("readings kept, lost and gone, as it says", counts_of(words), (kept, lost, gone))
+    same("places that never had a reading", words.count("no reading"), len(bad) - lost)
+    words = words.replace("no reading", "lost")
     rows = [line.split() for line in words.splitlines() if ("kept" in line) != ("lost" in line)]
     became = {int(row[0]): "kept" in row for row in rows if row[0].isdigit()}
     same("places named, and whether they are kept", became, {place: how == model.KEPT for place, how in enumerate(report) if how != model.WAS_BLANK})
 
 
 def rescued(site, path, data, box, in_place=False, words=(), record=None):
-    """Rescues a file with these bytes, whose store is `box`'s as it was damaged; the new image is the model's."""
+    """Rescues a file with these bytes, whose store is `box`'s as it was damaged; the new image is the model's. A head that is not what was written does not
+    say how many readings there were."""
+    used = int.from_bytes(data[12:16], "big") if data[7] == 2 and data[56:64] == hashlib.sha1(data[:56]).digest()[:8] else None
     path.write_bytes(data)
     _, store, report = model.rescue(box.store, bytes(len(box.store) // model.BLOCK))
     done = site.run("rescue", "--image", path, *(["--in-place"] if in_place else []), *words)
     same(f"rescue: exit code, with {done.err!r}", done.code, 0)
-    hold_account(done.out.decode(), report)
+    hold_account(done.out.decode(), report, used)
     new, old = (path, beside(path, ".damaged")) if in_place else (beside(path, ".rescued"), path)
     layout.same_image("rescued image", new, model.Box(store, record or box.record))
     same("its mode", new.stat().st_mode & 0o777, 0o600)
@@ -123,4 +132,41 @@ def spoilt_record(site, path, box, data):
     hold("the table that was lost is another", model.record_of(TABLE) != fresh)
 
 
-TESTS = [rescue, rescue_ways]
+def without_trace(site):
+    """Readings that left no trace: zeroed, or cut off with the end of the file. Rescue says how many; of an image of layout 1 that it can't know."""
+    path, entries = site.path("box.image"), [model.Entry(b"key %03d" % n, value=b"v%d" % n) for n in range(100)]
+    box, tried = box_of(entries, 128), 0
+    data, cut = layout.image_of(box), layout.STORE_AT + 32 * model.BLOCK
+    words = rescued_words(site, path, data[:cut])
+    same("kept, lost and gone of a file cut at a block", counts_of(words), (32, 0, 68))
+    for blank in range(100), [0], [99], [3, 4, 5, 50], []:
+        for broken in [], [7], [7, 98]:
+            store = bytearray(box.store)
+            for place in blank:
+                store[place * model.BLOCK:(place + 1) * model.BLOCK] = bytes(model.BLOCK)
+            for place in broken:
+                store[place * 512 + 200] ^= 1
+            if bytes(store) == box.store:
+                continue
+            rescued(site, path, with_store(box, bytes(store)), model.Box(bytes(store), box.record))
+            tried += 1
+    litter = bytearray(box.store)
+    litter[110 * 512 + 9], litter[5 * 512:6 * 512] = 1, bytes(512)
+    rescued(site, path, with_store(box, bytes(litter)), model.Box(bytes(litter), box.record))
+    full = box_of(entries + [model.Entry(b"z %02d" % n) for n in range(28)], 128)
+    rescued(site, path, layout.image_of(full) + b"litter after the last block" * 1000, full)
+    rescued(site, path, layout.image_of(full) + bytes(1), full, True)
+    rescued(site, path, layout.image_of(box, 1)[:cut], model.Box(box.store[:32 * 512].ljust(len(box.store), b"\0"), box.record))
+    return f"a file cut at a block: 32 kept, 0 lost, 68 gone; {tried} with blocks zeroed and damaged, 1 with litter, 2 full ones with bytes behind, 1 of layout 1"
+
+
+def rescued_words(site, path, data):
+    """What a rescue says."""
+    path.write_bytes(data)
+    done = site.run("rescue", "--image", path)
+    same(f"rescue: exit code, with {done.err!r}", done.code, 0)
+    beside(path, ".rescued").unlink()
+    return done.out.decode()
+
+
+TESTS = [rescue, rescue_ways, without_trace]
