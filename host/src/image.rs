@@ -1,13 +1,9 @@
-//! The image: the device record and the store in one file (docs/OPERATING.md, "The image"), read, judged, and written so that it is whole at every moment.
+//! The image: the device record and the store in one file (docs/OPERATING.md, "The image"), as bytes, read and judged.
 
 use crate::failure::{Failure, Result};
 use crate::input;
 use crate::library::{self, BLOCK, MOST_BLOCKS, RECORD};
-use std::ffi::OsString;
-use std::fs::{File, OpenOptions, TryLockError, hard_link, remove_file, rename};
-use std::io::{self, ErrorKind, Write};
-use std::os::unix::fs::OpenOptionsExt;
-use std::path::{Path, PathBuf};
+use std::path::Path;
 
 /// The layout's number is the eighth byte. Layout 1, which is only read, has zeros for the number of used blocks and for the seal.
 const MAGIC: [u8; 7] = *b"RLADLE\0";
@@ -69,7 +65,7 @@ impl Image {
         self.store.chunks(BLOCK).take_while(|block| block[0] != 0).count()
     }
 
-    fn bytes(&self) -> Vec<u8> {
+    pub fn bytes(&self) -> Vec<u8> {
         let mut bytes = Vec::with_capacity(STORE + self.store.len());
         bytes.extend(MAGIC);
         bytes.push(LAYOUT);
@@ -143,82 +139,4 @@ impl Found {
         let damage = faults.into_iter().filter(|(is, _)| *is).map(|(_, words)| words).collect();
         Some(Found { image, record_sound, used, damage })
     }
-}
-
-/// Where an image stands, taken for this process alone until it ends. A new image is written whole beside the old one, synced, and renamed over it, and the
-/// folder is synced: so whoever reads the file, at whatever moment, after whatever kill, finds a whole image, and no code is needed to mend one.
-pub struct Place {
-    pub path: PathBuf,
-    folder: File,
-    _lock: File,
-}
-
-impl Place {
-    /// Of an image that is there.
-    pub fn take(path: &Path) -> Result<Place> {
-        let missing = |why: io::Error| Failure::system(format!("{}: {why}; 'ridgeladle format' makes an image", path.display()));
-        let file = path.canonicalize().map_err(missing)?;
-        if file.is_file() { Place::locked(file) } else { Err(Failure::data(format!("{} is not a file", path.display()))) }
-    }
-
-    /// For an image that is to be made; over one that is there only if that is meant.
-    pub fn make(path: &Path, replace: bool) -> Result<Place> {
-        if path.exists() && !replace {
-            return Err(Failure::system(format!("{} is there already; --replace writes over it", path.display())));
-        }
-        Place::locked(path.canonicalize().or_else(|_| std::path::absolute(path)).map_err(|why| Failure::file(path, why))?)
-    }
-
-    fn locked(path: PathBuf) -> Result<Place> {
-        let name = beside(&path, ".lock");
-        let lock =
-            OpenOptions::new().write(true).create(true).truncate(true).mode(0o600).open(&name).map_err(|why| Failure::file(&name, why))?;
-        lock.try_lock().map_err(|refused| match refused {
-            TryLockError::WouldBlock => Failure::system(format!("{}: another ridgeladle has it open", path.display())),
-            TryLockError::Error(why) => Failure::file(&name, why),
-        })?;
-        let folder = path.parent().unwrap_or(Path::new("/"));
-        Ok(Place { folder: File::open(folder).map_err(|why| Failure::file(folder, why))?, path, _lock: lock })
-    }
-
-    /// When this returns well the image is on disk.
-    pub fn write(&self, image: &Image) -> io::Result<()> {
-        let new = beside(&self.path, ".new");
-        // What a server left that was killed may have another owner or mode.
-        remove_file(&new).or_else(|why| if why.kind() == ErrorKind::NotFound { Ok(()) } else { Err(why) })?;
-        write_new(&new, image)?;
-        rename(&new, &self.path)?;
-        self.folder.sync_all()
-    }
-
-    /// Writes an image beside this one, under its name with an ending, where nothing has that name yet; gives the name.
-    pub fn write_beside(&self, ending: &str, image: &Image) -> Result<String> {
-        let new = beside(&self.path, ending);
-        let written = write_new(&new, image).and_then(|()| self.folder.sync_all());
-        written.map_err(|why| Failure::file(&new, why))?;
-        Ok(name_of(&new))
-    }
-
-    /// Gives the image a second name, with an ending, where nothing has that name yet; gives the name.
-    pub fn keep_as(&self, ending: &str) -> Result<String> {
-        let kept = beside(&self.path, ending);
-        hard_link(&self.path, &kept).map_err(|why| Failure::file(&kept, why))?;
-        Ok(name_of(&kept))
-    }
-}
-
-fn write_new(path: &Path, image: &Image) -> io::Result<()> {
-    let mut file = OpenOptions::new().write(true).create_new(true).mode(0o600).open(path)?;
-    file.write_all(&image.bytes())?;
-    file.sync_all()
-}
-
-fn name_of(path: &Path) -> String {
-    path.file_name().unwrap_or_default().to_string_lossy().into_owned()
-}
-
-fn beside(path: &Path, ending: &str) -> PathBuf {
-    let mut name = OsString::from(path);
-    name.push(ending);
-    PathBuf::from(name)
 }

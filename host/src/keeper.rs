@@ -1,7 +1,8 @@
 //! The box in memory and on disk: every reply waits until the state that it was answered from is on disk, and changes that wait are written together.
 
-use crate::image::{Image, Place};
+use crate::image::Image;
 use crate::library::{self, CONNECTION, READINGS, REPLY};
+use crate::place::Place;
 use crate::say;
 use std::io;
 use std::sync::{Arc, Condvar, Mutex, MutexGuard, OnceLock, PoisonError};

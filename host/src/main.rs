@@ -1,11 +1,12 @@
 use ridgeladle::failure::{Failure, Result};
-use ridgeladle::{commands, format, rescue, say, server, show, text};
+use ridgeladle::{commands, format, rescue, reset, say, server, show, system, text};
 use std::ffi::OsString;
 use std::process::ExitCode;
 
 const HELP: &str = include_str!("help.txt");
 
 fn main() -> ExitCode {
+    system::outlive_size_limit();
     let words: Vec<OsString> = std::env::args_os().skip(1).collect();
     let name = words.first().map_or("help".into(), |word| word.to_string_lossy());
     match command(&name, words.get(1..).unwrap_or_default()) {
@@ -23,6 +24,7 @@ fn command(name: &str, words: &[OsString]) -> Result<()> {
         "format" => format::run(words),
         "show" => show::run(words),
         "rescue" => rescue::run(words),
+        "reset-table" => reset::run(words),
         "help" | "--help" | "-h" => text::print(HELP),
         _ if commands::known(name) => commands::run(name, words),
         _ => Err(Failure::usage("no such command; 'ridgeladle help' lists them")),

@@ -2,9 +2,10 @@
 
 use crate::arguments::Arguments;
 use crate::failure::{Failure, Result};
-use crate::image::{Found, Image, Place};
+use crate::image::{Found, Image};
 use crate::key::key_of;
 use crate::library::{self, BLOCK};
+use crate::place::Place;
 use crate::show::key_of_block;
 use crate::text::{print, table};
 use std::ffi::OsString;
@@ -48,13 +49,12 @@ fn new_record(arguments: &Arguments) -> Result<[u8; library::RECORD]> {
 }
 
 fn put_beside(place: &Place, image: &Image) -> Result<String> {
-    let new = place.write_beside(".rescued", image)?;
+    let new = place.write_beside(image, ".rescued")?;
     Ok(format!("The new image is {new} beside it; the old one was not touched.\n"))
 }
 
 fn replace(place: &Place, image: &Image) -> Result<String> {
-    let kept = place.keep_as(".damaged")?;
-    place.write(image).map_err(|why| Failure::file(&place.path, why))?;
+    let kept = place.exchange(image, ".damaged")?;
     Ok(format!("The new image stands in its place; the old one is {kept} beside it.\n"))
 }
 

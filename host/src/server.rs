@@ -2,10 +2,11 @@
 
 use crate::arguments::Arguments;
 use crate::failure::{Failure, Result};
-use crate::image::{Image, Place};
+use crate::image::Image;
 use crate::keeper::Keeper;
 use crate::library::{self, CONNECTION, MORE, MOST_FRAME};
 use crate::peers::{Peers, Seat};
+use crate::place::Place;
 use crate::readings_file::ReadingsFile;
 use crate::system::EndSignals;
 use crate::text::print;

@@ -5,9 +5,12 @@ use std::io;
 
 /// Flags of opening a file, on x86-64.
 pub const O_NONBLOCK: i32 = 0o4000;
+pub const O_NOFOLLOW: i32 = 0o400000;
 
 const SIGINT: i32 = 2;
 const SIGTERM: i32 = 15;
+const SIGXFSZ: i32 = 25;
+const SIG_IGN: usize = 1;
 const SIG_BLOCK: i32 = 0;
 
 /// A `sigset_t`: 1,024 bits on Linux.
@@ -19,6 +22,11 @@ unsafe extern "C" {
     fn sigaddset(set: *mut SignalSet, number: i32) -> i32;
     fn pthread_sigmask(how: i32, set: *const SignalSet, old: *mut SignalSet) -> i32;
     fn sigwait(set: *const SignalSet, number: *mut i32) -> i32;
+}
+
+/// A file that would grow past a limit on its size is a failed write like others, and not the end of the program.
+pub fn outlive_size_limit() {
+    unsafe { signal(SIGXFSZ, SIG_IGN) };
 }
 
 extern "C" fn never_called(_: i32) {}

@@ -4,6 +4,7 @@ import hashlib
 import io
 import os
 import pathlib
+import signal
 import socket
 import stat
 
@@ -187,6 +188,84 @@ def image_one(site):
     return "4 names of one image, rescue and format beside a server, 2 ports in use, 6 wrong words: refused, and the first goes on"
 
 
+def refused_beside(site, path, what):
+    """No second program gets the image that a server has."""
+    for words in ["serve", "--listen", "127.0.0.1:0"], ["rescue"], ["reset-table", "--key-file", "key"], ["format", "--key-file", "key", "--replace"]:
+        done = site.run(*words, "--image", path)
+        hold(f"{words[0]} {what}: {done}", done.code == 74 and done.out == b"" and "another ridgeladle" in done.err)
+
+
+def image_locked(site):
+    """The lock holds where FILE.lock is taken away, and through a hard link of the image, made before or while it serves; changes acknowledged stay."""
+    path, box = site.format(blocks=4)
+    link, later = site.path("link.image"), site.path("later.image")
+    os.link(path, link)
+    server = site.serve(path)
+    with Client(server.address, box) as client:
+        for turn in "before a change", "after a change":
+            pathlib.Path(f"{path}.lock").unlink()
+            refused_beside(site, path, f"with FILE.lock taken away, {turn}")
+            refused_beside(site, link, f"through a hard link, {turn}")
+            same("code of a PUT", client.put(b"k", turn.encode(), force=1), 1)
+            layout.same_image("after a PUT", path, box)
+        os.link(path, later)
+        same("code of a PUT", client.put(b"k", b"newer", force=1), 1)
+        for name in path, link, later:
+            refused_beside(site, name, "when all names are of other files")
+        layout.same_image("after all that was refused", path, box)
+    server.end(signal.SIGTERM)
+    with Client(site.serve(path).address, box) as client:
+        same("code of a GET of what was acknowledged", client.ask("GET", pair(b"k")), 1)
+    return "28 programs beside a server, with FILE.lock taken away and by 2 hard links: refused; each acknowledged change is there"
+
+
+def image_lock_file(site):
+    """FILE.lock that is a link, or has something in it: no file is cut, and no link followed."""
+    path, box = site.format(blocks=2)
+    lock, other = pathlib.Path(f"{path}.lock"), site.write("precious", b"not to be cut")
+    lock.unlink()
+    lock.symlink_to(other)
+    for words in ["serve", "--listen", "127.0.0.1:0"], ["rescue"], ["reset-table", "--key-file", "key"], ["format", "--key-file", "key", "--replace"]:
+        done = site.run(*words, "--image", path)
+        hold(f"{words[0]} with a link for FILE.lock: {done}", done.code == 74 and done.out == b"" and ".lock" in done.err)
+        same("the file behind the link", other.read_bytes(), b"not to be cut")
+    lock.unlink()
+    lock.symlink_to(site.path("missing"))
+    same("serve with a link to nothing for FILE.lock", site.run("serve", "--image", path, "--listen", "127.0.0.1:0").code, 74)
+    hold("a file was made behind a link", not site.path("missing").exists())
+    lock.unlink()
+    os.link(other, lock)
+    with Client(site.serve(path).address, box) as client:
+        same("code of a PUT", client.put(b"k", b"v"), 1)
+    same("a file that is FILE.lock too", (other.read_bytes(), other.stat().st_mode & 0o777), (b"not to be cut", 0o644))
+    return "4 commands with a link for FILE.lock, 1 with a link to nothing: refused; the file behind is whole, also where it is FILE.lock itself"
+
+
+def image_replaced(site):
+    """Another file in the image's place while it serves is not written over: changes are refused until the image is back. An image that is gone is written."""
+    path, box = site.format(blocks=4)
+    other, _ = site.format("other.image", 2)
+    away, data = site.path("away.image"), other.read_bytes()
+    server = site.serve(path)
+    with Client(server.address, box) as client:
+        same("code of a PUT", client.put(b"k", b"v"), 1)
+    path.rename(away)
+    other.rename(path)
+    with Client(server.address, box) as client:
+        client.peer.send(client.request("PUT", pair(b"new"), b"lost").bytes())
+        same("reply to a PUT with another file in the image's place", client.peer.rest(), b"")
+    same("the other file", path.read_bytes(), data)
+    path.unlink()
+    away.rename(path)
+    with Client(server.address, box) as client:
+        same("code of a PUT when the image is back", client.put(b"k", b"back", force=1), 1)
+        layout.same_image("after it", path, box)
+        path.unlink()
+        same("code of a PUT when the image is gone", client.put(b"k", b"gone", force=1), 1)
+    layout.same_image("after that", path, box)
+    return "another file in its place: not written over, and the change refused; back, or gone: written"
+
+
 OLDER = pathlib.Path(__file__).resolve().parent / "data" / "layout1.img"
 OLDER_ENTRIES = [model.Entry(b"timer/7/10:00:30", b"1", b"", 0, b"WBGT 31.4 C, work 30 min, rest 30 min"),
                  model.Entry(b"timer/7/10:01:00", b"", b"\0\xff", 6, b"WBGT 31.6 C, work 15 min, rest 45 min")]
@@ -213,4 +292,4 @@ def image_older(site):
     return "an image of layout 1 with 2 entries and 2 identities: shown, served, and written as layout 2 at a PUT"
 
 
-TESTS = [image_format, image_show, image_refused, image_older, image_one]
+TESTS = [image_format, image_show, image_refused, image_older, image_one, image_locked, image_lock_file, image_replaced]
