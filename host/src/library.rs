@@ -55,6 +55,11 @@ pub fn closed(connection: &[u8; CONNECTION]) -> bool {
     connection[9] != 0
 }
 
+/// Whether a request was accepted on a connection: its sequence counted, so it was signed right, and with this connection's number.
+pub fn accepted(connection: &[u8; CONNECTION]) -> bool {
+    connection[10] != 0
+}
+
 /// How many bytes of the input were taken, and how many of `out` written; or the number of a refusal, and nothing is changed.
 pub fn answer(
     store: &mut [u8],

@@ -1,4 +1,4 @@
-//! Who is connected, so many at most.
+//! Who is connected, so many at most, and who makes room for whom: those that were refused, then those that have signed nothing yet, for one that comes.
 
 use std::net::{Shutdown, TcpStream};
 use std::sync::{Arc, Condvar, Mutex, MutexGuard, PoisonError};
@@ -21,7 +21,17 @@ struct Open {
 
 struct Peer {
     number: u64,
+    stage: Stage,
     stream: Arc<TcpStream>,
+}
+
+#[derive(Clone, Copy, PartialEq)]
+pub enum Stage {
+    /// No request on this connection was signed right so far.
+    Unsigned,
+    Signed,
+    /// The box has closed it, and it may still take the closing reply.
+    Refused,
 }
 
 /// A peer's place, until it is dropped.
@@ -40,15 +50,15 @@ impl Peers {
         self.open.lock().unwrap_or_else(PoisonError::into_inner)
     }
 
-    /// None where all places are taken, or the server ends.
+    /// None where all places are taken by peers that have signed, or the server ends.
     pub fn admit(self: &Arc<Peers>, stream: TcpStream) -> Option<Seat> {
         let mut open = self.lock();
-        if open.ended || open.peers.len() >= self.most {
+        if open.ended || open.peers.len() >= self.most && !open.make_room() {
             return None;
         }
         open.came += 1;
         let (number, stream) = (open.came, Arc::new(stream));
-        open.peers.push(Peer { number, stream: stream.clone() });
+        open.peers.push(Peer { number, stage: Stage::Unsigned, stream: stream.clone() });
         Some(Seat { peers: self.clone(), number, stream })
     }
 
@@ -66,6 +76,29 @@ impl Peers {
     pub fn wait(&self, most: Duration) {
         let all_left = self.left.wait_timeout_while(self.lock(), most, |open| !open.peers.is_empty());
         drop(all_left.unwrap_or_else(PoisonError::into_inner));
+    }
+}
+
+impl Open {
+    /// Closes the longest-waiting of those who must make room; false where there is none.
+    fn make_room(&mut self) -> bool {
+        let first = |stage| self.peers.iter().position(|peer| peer.stage == stage);
+        let Some(place) = first(Stage::Refused).or_else(|| first(Stage::Unsigned)) else { return false };
+        let _ = self.peers.remove(place).stream.shutdown(Shutdown::Both);
+        true
+    }
+}
+
+impl Seat {
+    pub fn now(&self, stage: Stage) {
+        if let Some(peer) = self.peers.lock().peers.iter_mut().find(|peer| peer.number == self.number) {
+            peer.stage = stage;
+        }
+    }
+
+    /// Whether it had to make room for another.
+    pub fn given_up(&self) -> bool {
+        self.peers.lock().peers.iter().all(|peer| peer.number != self.number)
     }
 }
 

@@ -5,10 +5,10 @@ use crate::failure::{Failure, Result};
 use crate::image::Image;
 use crate::keeper::Keeper;
 use crate::library::{self, CONNECTION, MORE, MOST_FRAME};
-use crate::peers::{Peers, Seat};
+use crate::peers::{Peers, Seat, Stage};
 use crate::place::Place;
 use crate::readings_file::ReadingsFile;
-use crate::system::EndSignals;
+use crate::system::{self, EndSignals};
 use crate::text::print;
 use crate::{random, say};
 use std::ffi::OsString;
@@ -21,6 +21,10 @@ use std::time::{Duration, Instant};
 pub const LISTEN: &str = "127.0.0.1:8123";
 const CONNECTIONS: i64 = 64;
 const IDLE: i64 = 120;
+const FIRST_REQUEST: i64 = 5;
+/// Peers that wait to be accepted.
+const QUEUE: i32 = 4096;
+const OPTIONS: [&str; 7] = ["image", "listen", "protected-listen", "readings", "connections", "idle", "first-request"];
 /// How long a closing reply may take to reach a peer that is still sending, and the last replies of a server that ends.
 const FAREWELL: Duration = Duration::from_secs(2);
 /// Of a connection's thread: the library takes under 10 KB, the input and a reply under 30.
@@ -30,21 +34,23 @@ struct Server {
     keeper: Keeper,
     peers: Arc<Peers>,
     idle: Duration,
+    first_request: Duration,
 }
 
 pub fn run(words: &[OsString]) -> Result<()> {
-    let arguments = Arguments::read(words, &["image", "listen", "protected-listen", "readings", "connections", "idle"], &[])?;
+    let arguments = Arguments::read(words, &OPTIONS, &[])?;
     let [] = arguments.plain_bytes([])?;
     let path = arguments.path("image")?;
     let most = arguments.number("connections", 1, 4096, CONNECTIONS)? as usize;
-    let idle = Duration::from_secs(arguments.number("idle", 1, 86400, IDLE)? as u64);
+    let seconds = |name, missing| arguments.number(name, 1, 86400, missing).map(|seconds| Duration::from_secs(seconds as u64));
+    let (idle, first_request) = (seconds("idle", IDLE)?, seconds("first-request", FIRST_REQUEST)?);
     let signals = EndSignals::hold_back().map_err(Failure::system)?;
     let place = Place::take(&path)?;
     let image = Image::open(&path)?;
     let used = format!("{} of {} blocks used", image.used(), image.blocks());
     let plain = listener(arguments.words("listen")?.unwrap_or(LISTEN))?;
     let protected = arguments.words("protected-listen")?.map(listener).transpose()?;
-    let server = Arc::new(Server { keeper: Keeper::new(place, image), peers: Peers::new(most), idle });
+    let server = Arc::new(Server { keeper: Keeper::new(place, image), peers: Peers::new(most), idle, first_request });
     if let Some(path) = arguments.option("readings") {
         let (server, mut file) = (server.clone(), ReadingsFile::new(path.into()));
         file.look(&server.keeper);
@@ -62,7 +68,8 @@ pub fn run(words: &[OsString]) -> Result<()> {
 }
 
 fn listener(address: &str) -> Result<TcpListener> {
-    TcpListener::bind(address).map_err(|why| Failure::system(format!("can't listen on {address}: {why}")))
+    let bound = TcpListener::bind(address).and_then(|listener| system::queue(&listener, QUEUE).map(|()| listener));
+    bound.map_err(|why| Failure::system(format!("can't listen on {address}: {why}")))
 }
 
 fn local(listener: &TcpListener) -> Result<SocketAddr> {
@@ -112,8 +119,9 @@ impl Server {
         let server = self.clone();
         let work = move || {
             match server.converse(&seat, protected) {
-                Ok(End::Left) => (),
                 Ok(End::Closed) => say(format!("{peer}: closed by the box: no frame, or no message that is signed right")),
+                _ if seat.given_up() => say(format!("{peer}: closed to make room for another: no request so far that is signed right")),
+                Ok(End::Left) => (),
                 Ok(End::Said(words)) => say(format!("{peer}: {words}")),
                 Err(why) => say(format!("{peer}: {why}")),
             };
@@ -124,26 +132,25 @@ impl Server {
     }
 
     fn converse(&self, seat: &Seat, protected: bool) -> io::Result<End> {
-        let stream = &seat.stream;
+        let (stream, begun) = (&seat.stream, Instant::now());
         stream.set_nodelay(true)?;
         let mut connection = library::connect(random::number()? as i64, protected);
-        let (mut input, mut filled) = ([0; 2 * MOST_FRAME], 0);
-        let mut replies = Vec::new();
-        let mut deadline = Instant::now() + self.idle;
+        let (mut input, mut filled, mut replies) = ([0; 2 * MOST_FRAME], 0, Vec::new());
+        let mut deadline = self.deadline(&connection, begun);
         loop {
             match read_until(stream, &mut input[filled..], deadline)? {
-                None => return Ok(End::Said(format!("closed, no whole request in {} s", self.idle.as_secs()))),
+                None => return Ok(self.late(&connection, "no whole request")),
                 Some(0) if filled == 0 => return Ok(End::Left),
                 Some(0) => return Ok(End::Said(format!("left after {filled} bytes of a request"))),
                 Some(more) => filled += more,
             }
             replies.clear();
-            let taken = match self.turn(&mut connection, &input[..filled], &mut replies) {
+            let taken = match self.turn(seat, &mut connection, &input[..filled], &mut replies) {
                 Ok(taken) => taken,
                 Err(end) => return Ok(end),
             };
-            if !write_until(stream, &replies, Instant::now() + self.idle)? {
-                return Ok(End::Said(format!("closed, it took no reply in {} s", self.idle.as_secs())));
+            if !write_until(stream, &replies, self.deadline(&connection, begun))? {
+                return Ok(self.late(&connection, "it took no reply"));
             }
             if library::closed(&connection) {
                 return farewell(stream).map(|()| End::Closed);
@@ -151,14 +158,34 @@ impl Server {
             if taken > 0 {
                 input.copy_within(taken..filled, 0);
                 filled -= taken;
-                deadline = Instant::now() + self.idle;
+                deadline = self.deadline(&connection, begun);
             }
         }
     }
 
+    /// Until when a peer that began then has time, from now on.
+    fn deadline(&self, connection: &[u8; CONNECTION], begun: Instant) -> Instant {
+        let idle = Instant::now() + self.idle;
+        if library::accepted(connection) { idle } else { idle.min(begun + self.first_request) }
+    }
+
+    fn late(&self, connection: &[u8; CONNECTION], why: &str) -> End {
+        End::Said(if library::accepted(connection) {
+            format!("closed, {why} in {} s", self.idle.as_secs())
+        } else {
+            format!("closed, no request that is signed right in {} s", self.idle.min(self.first_request).as_secs())
+        })
+    }
+
     /// Answers what has come whole; the replies may be sent when this returns, and so many bytes of the input are taken.
-    fn turn(&self, connection: &mut [u8; CONNECTION], input: &[u8], replies: &mut Vec<u8>) -> std::result::Result<usize, End> {
+    fn turn(&self, seat: &Seat, connection: &mut [u8; CONNECTION], input: &[u8], replies: &mut Vec<u8>) -> std::result::Result<usize, End> {
+        let accepted = library::accepted(connection);
         let answers = self.keeper.answer(connection, input, replies).ok_or(End::Left)?;
+        if library::closed(connection) {
+            seat.now(Stage::Refused);
+        } else if library::accepted(connection) && !accepted {
+            seat.now(Stage::Signed);
+        }
         if answers.refusal != MORE && !library::closed(connection) {
             return Err(End::Said(format!("closed, the box refuses to answer ({})", answers.refusal)));
         }

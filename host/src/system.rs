@@ -1,7 +1,10 @@
-//! The system's calls that Rust's library lacks. All `unsafe` that is not in `library` is in this file: each call gets a signal set or a number of its own.
+//! The system's calls that Rust's library lacks. All `unsafe` that is not in `library` is in this file: each call gets numbers, or a
+//! signal set of its own.
 #![allow(unsafe_code)]
 
 use std::io;
+use std::net::TcpListener;
+use std::os::fd::AsRawFd;
 
 /// Flags of opening a file, on x86-64.
 pub const O_NONBLOCK: i32 = 0o4000;
@@ -18,6 +21,7 @@ const SIG_BLOCK: i32 = 0;
 struct SignalSet([u64; 16]);
 
 unsafe extern "C" {
+    fn listen(socket: i32, backlog: i32) -> i32;
     fn signal(number: i32, handler: usize) -> usize;
     fn sigaddset(set: *mut SignalSet, number: i32) -> i32;
     fn pthread_sigmask(how: i32, set: *const SignalSet, old: *mut SignalSet) -> i32;
@@ -27,6 +31,11 @@ unsafe extern "C" {
 /// A file that would grow past a limit on its size is a failed write like others, and not the end of the program.
 pub fn outlive_size_limit() {
     unsafe { signal(SIGXFSZ, SIG_IGN) };
+}
+
+/// Lets so many peers wait to be accepted; Rust's library says 128. Past that the system drops one, who tries again a second later.
+pub fn queue(listener: &TcpListener, most: i32) -> io::Result<()> {
+    if unsafe { listen(listener.as_raw_fd(), most) } == 0 { Ok(()) } else { Err(io::Error::last_os_error()) }
 }
 
 extern "C" fn never_called(_: i32) {}

@@ -8,7 +8,7 @@ import time
 
 import layout
 import messages
-from held import PATIENCE, Failed, hold, same, soon
+from held import PATIENCE, Failed, Lost, hold, same, soon
 from program import KEY
 from wire import Client, Peer, code_of, number_of, pair
 
@@ -164,7 +164,8 @@ def peers(site):
 
 
 def crowd(site):
-    """More connections than --connections, or than 64: the next is closed at once, those that stand are answered, and one that leaves makes room."""
+    """More connections than --connections, or than 64, all of whom have signed: the next is closed, those that stand are answered, and one that leaves makes
+    room."""
     turned_away = sum(crowded(site, most, words) for most, words in ((4, ["--connections", "4"]), (64, [])))
     return f"{turned_away} connections too many closed at once, 4 and 64 that stood answered, 10 each let in when others left"
 
@@ -173,6 +174,7 @@ def crowded(site, most, words):
     path, box = site.format(f"{most}.image", blocks=2)
     server = site.serve(path, "--protected-listen", "127.0.0.1:0", *words)
     clients = [Client(server.protected if n % 2 else server.address, box, protected=n % 2 == 1) for n in range(most)]
+    same("codes of first requests", [client.ask("NOOP") for client in clients], [1] * most)
     for address in [server.address, server.protected] * 10:
         with Peer(address) as peer:
             same("what one too many got", peer.rest(), b"")
@@ -181,7 +183,6 @@ def crowded(site, most, words):
     for _ in range(10):
         clients.pop(0).peer.close()
         clients.append(soon("room for one more", lambda: admitted(server, box)))
-        same("code of a GET of one that was let in", clients[-1].ask("GET", pair(b"k")), 1)
     for client in clients:
         client.finished("its requests")
     layout.same_image("after a crowd", path, box)
@@ -189,11 +190,13 @@ def crowded(site, most, words):
 
 
 def admitted(server, box):
-    """A client, or None where it was turned away."""
+    """A client that was answered a GET, or None where it was turned away."""
     try:
-        return Client(server.address, box)
-    except (Failed, OSError):
+        client = Client(server.address, box)
+    except (Lost, OSError):
         return None
+    same("code of a GET of one that was let in", client.ask("GET", pair(b"k")), 1)
+    return client
 
 
 def paused(site):
