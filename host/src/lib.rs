@@ -10,6 +10,7 @@ pub mod input;
 pub mod keeper;
 pub mod key;
 pub mod library;
+pub mod log;
 pub mod peers;
 pub mod place;
 pub mod random;
@@ -26,7 +27,7 @@ pub mod wire;
 use std::fmt::Display;
 use std::io::Write;
 
-/// A line on standard error. A server goes on also where nobody reads it.
+/// A line on standard error, why a command failed. What a server says while it serves goes through `log`.
 pub fn say(words: impl Display) {
     let _ = writeln!(std::io::stderr(), "ridgeladle: {words}");
 }

@@ -17,6 +17,9 @@ pub const STORE_BAD: u32 = 2;
 pub const DEVICE_BAD: u32 = 3;
 pub const MORE: u32 = 5;
 
+/// Kinetic's status of a PUT that found no blank block.
+pub const NO_SPACE: u8 = 14;
+
 unsafe extern "C" {
     fn ridgeladle_format(store: *mut u8, store_len: usize, record: *mut u8, key: *const u8, key_len: usize) -> u32;
     fn ridgeladle_connect(connection: *mut u8, number: i64, protected: u8);
@@ -86,6 +89,12 @@ pub fn answer(
         )
     })?;
     Ok((counts[0] as usize, counts[1] as usize))
+}
+
+/// The status of a reply: the last byte of its message, since it is the last field of the last field, and every status is below 128.
+pub fn status(reply: &[u8; REPLY]) -> u8 {
+    let message = u32::from_be_bytes([reply[1], reply[2], reply[3], reply[4]]) as usize;
+    reply.get(8 + message).copied().unwrap_or_default()
 }
 
 /// Whether a store meets the block rules.

@@ -4,7 +4,7 @@ use crate::failure::Failure;
 use crate::input;
 use crate::keeper::Keeper;
 use crate::library::READINGS;
-use crate::say;
+use crate::log::{Level, Log};
 use crate::text::bytes_of;
 use std::path::PathBuf;
 use std::time::Duration;
@@ -27,14 +27,14 @@ impl ReadingsFile {
     }
 
     /// Lends what the file says, if it says something new. What is bad is said once, and changes nothing.
-    pub fn look(&mut self, keeper: &Keeper) {
+    pub fn look(&mut self, keeper: &Keeper, log: &Log) {
         let text = self.text().map_err(|why| why.message);
         if self.last.as_ref() == Some(&text) {
             return;
         }
         match text.clone().and_then(|text| readings_of(&text).map_err(|why| format!("{}: {why}", self.path.display()))) {
             Ok(readings) => keeper.lend(readings),
-            Err(why) => say(format!("{why}; the readings stay as they were")),
+            Err(why) => log.say(Level::Warning, "a bad file of readings", format!("{why}; the readings stay as they were")),
         }
         self.last = Some(text);
     }
@@ -47,10 +47,10 @@ impl ReadingsFile {
         Ok(text)
     }
 
-    pub fn follow(mut self, keeper: &Keeper) -> ! {
+    pub fn follow(mut self, keeper: &Keeper, log: &Log) -> ! {
         loop {
             std::thread::sleep(PAUSE);
-            self.look(keeper);
+            self.look(keeper, log);
         }
     }
 }

@@ -5,12 +5,13 @@ use crate::failure::{Failure, Result};
 use crate::image::Image;
 use crate::keeper::Keeper;
 use crate::library::{self, CONNECTION, MORE, MOST_FRAME};
+use crate::log::{Kind, Level, Log};
 use crate::peers::{Peers, Seat, Stage};
 use crate::place::Place;
+use crate::random;
 use crate::readings_file::ReadingsFile;
 use crate::system::{self, EndSignals};
 use crate::text::print;
-use crate::{random, say};
 use std::ffi::OsString;
 use std::io::{self, ErrorKind, Read, Write};
 use std::net::{Shutdown, SocketAddr, TcpListener, TcpStream};
@@ -24,7 +25,7 @@ const IDLE: i64 = 120;
 const FIRST_REQUEST: i64 = 5;
 /// Peers that wait to be accepted.
 const QUEUE: i32 = 4096;
-const OPTIONS: [&str; 7] = ["image", "listen", "protected-listen", "readings", "connections", "idle", "first-request"];
+const OPTIONS: [&str; 8] = ["image", "listen", "protected-listen", "readings", "connections", "idle", "first-request", "log-level"];
 /// How long a closing reply may take to reach a peer that is still sending, and the last replies of a server that ends.
 const FAREWELL: Duration = Duration::from_secs(2);
 /// Of a connection's thread: the library takes under 10 KB, the input and a reply under 30.
@@ -32,6 +33,7 @@ const STACK: usize = 256 << 10;
 
 struct Server {
     keeper: Keeper,
+    log: Arc<Log>,
     peers: Arc<Peers>,
     idle: Duration,
     first_request: Duration,
@@ -44,17 +46,20 @@ pub fn run(words: &[OsString]) -> Result<()> {
     let most = arguments.number("connections", 1, 4096, CONNECTIONS)? as usize;
     let seconds = |name, missing| arguments.number(name, 1, 86400, missing).map(|seconds| Duration::from_secs(seconds as u64));
     let (idle, first_request) = (seconds("idle", IDLE)?, seconds("first-request", FIRST_REQUEST)?);
+    let level = Level::of(arguments.words("log-level")?)?;
     let signals = EndSignals::hold_back().map_err(Failure::system)?;
     let place = Place::take(&path)?;
     let image = Image::open(&path)?;
     let used = format!("{} of {} blocks used", image.used(), image.blocks());
     let plain = listener(arguments.words("listen")?.unwrap_or(LISTEN))?;
     let protected = arguments.words("protected-listen")?.map(listener).transpose()?;
-    let server = Arc::new(Server { keeper: Keeper::new(place, image), peers: Peers::new(most), idle, first_request });
+    let log = Log::start(level)?;
+    let keeper = Keeper::new(place, image, log.clone());
+    let server = Arc::new(Server { keeper, log, peers: Peers::new(most), idle, first_request });
     if let Some(path) = arguments.option("readings") {
         let (server, mut file) = (server.clone(), ReadingsFile::new(path.into()));
-        file.look(&server.keeper);
-        start(move || file.follow(&server.keeper))?;
+        file.look(&server.keeper, &server.log);
+        start(move || file.follow(&server.keeper, &server.log))?;
     }
     print(format!("serving {} on {}, {used}\n", path.display(), local(&plain)?))?;
     server.clone().listen(plain, false)?;
@@ -62,7 +67,7 @@ pub fn run(words: &[OsString]) -> Result<()> {
         print(format!("serving protected on {}\n", local(&listener)?))?;
         server.clone().listen(listener, true)?;
     }
-    say(format!("ends by {}", signals.wait()));
+    server.log.say(Level::Info, "the end", format!("ends by {}", signals.wait()));
     server.end();
     Ok(())
 }
@@ -80,12 +85,15 @@ fn start(work: impl FnOnce() + Send + 'static) -> Result<()> {
     thread::Builder::new().stack_size(STACK).spawn(work).map(|_| ()).map_err(|why| Failure::system(format!("can't start a thread: {why}")))
 }
 
+const REFUSED: Kind = "closed by the box";
+const MADE_ROOM: Kind = "closed to make room";
+
 /// How a connection ended.
 enum End {
     Left,
     /// The box closed it.
     Closed,
-    Said(String),
+    Said(Level, Kind, String),
 }
 
 impl Server {
@@ -98,6 +106,7 @@ impl Server {
         self.peers.end();
         self.keeper.end();
         self.peers.wait(FAREWELL);
+        self.log.end();
     }
 
     fn accept(self: &Arc<Server>, listener: &TcpListener, protected: bool) -> ! {
@@ -105,7 +114,7 @@ impl Server {
             match listener.accept() {
                 Ok((stream, peer)) => self.admit(stream, peer, protected),
                 Err(why) => {
-                    say(format!("can't accept a connection: {why}"));
+                    self.log.say(Level::Error, "can't accept a connection", format!("can't accept a connection: {why}"));
                     thread::sleep(Duration::from_millis(100));
                 }
             }
@@ -114,21 +123,26 @@ impl Server {
 
     fn admit(self: &Arc<Server>, stream: TcpStream, peer: SocketAddr, protected: bool) {
         let Some(seat) = self.peers.admit(stream) else {
-            return say(format!("{peer}: closed, as many connections as may be are open already"));
+            let words = format!("{peer}: closed, as many connections as may be are open already");
+            return self.log.say(Level::Warning, "no place for a connection", words);
         };
         let server = self.clone();
-        let work = move || {
-            match server.converse(&seat, protected) {
-                Ok(End::Closed) => say(format!("{peer}: closed by the box: no frame, or no message that is signed right")),
-                _ if seat.given_up() => say(format!("{peer}: closed to make room for another: no request so far that is signed right")),
-                Ok(End::Left) => (),
-                Ok(End::Said(words)) => say(format!("{peer}: {words}")),
-                Err(why) => say(format!("{peer}: {why}")),
-            };
-        };
+        let work = move || server.account(peer, server.converse(&seat, protected), seat.given_up());
         if let Err(failure) = start(work) {
-            say(format!("{peer}: closed, {}", failure.message));
+            self.log.say(Level::Error, "can't start a thread", format!("{peer}: closed, {}", failure.message));
         }
+    }
+
+    /// Says how a connection ended, if it did not just leave.
+    fn account(&self, peer: SocketAddr, ended: io::Result<End>, given_up: bool) {
+        let (level, kind, words): (Level, Kind, String) = match ended {
+            Ok(End::Closed) => (Level::Warning, REFUSED, format!("{REFUSED}: no frame, or no message that is signed right")),
+            _ if given_up => (Level::Info, MADE_ROOM, format!("{MADE_ROOM} for another: no request so far that is signed right")),
+            Ok(End::Left) => return,
+            Ok(End::Said(level, kind, words)) => (level, kind, words),
+            Err(why) => (Level::Info, "a connection failed", why.to_string()),
+        };
+        self.log.say(level, kind, format!("{peer}: {words}"));
     }
 
     fn converse(&self, seat: &Seat, protected: bool) -> io::Result<End> {
@@ -141,7 +155,7 @@ impl Server {
             match read_until(stream, &mut input[filled..], deadline)? {
                 None => return Ok(self.late(&connection, "no whole request")),
                 Some(0) if filled == 0 => return Ok(End::Left),
-                Some(0) => return Ok(End::Said(format!("left after {filled} bytes of a request"))),
+                Some(0) => return Ok(End::Said(Level::Info, "left amid a request", format!("left after {filled} bytes of a request"))),
                 Some(more) => filled += more,
             }
             replies.clear();
@@ -170,11 +184,12 @@ impl Server {
     }
 
     fn late(&self, connection: &[u8; CONNECTION], why: &str) -> End {
-        End::Said(if library::accepted(connection) {
+        let words = if library::accepted(connection) {
             format!("closed, {why} in {} s", self.idle.as_secs())
         } else {
             format!("closed, no request that is signed right in {} s", self.idle.min(self.first_request).as_secs())
-        })
+        };
+        End::Said(Level::Info, "closed, its time was over", words)
     }
 
     /// Answers what has come whole; the replies may be sent when this returns, and so many bytes of the input are taken.
@@ -187,10 +202,11 @@ impl Server {
             seat.now(Stage::Signed);
         }
         if answers.refusal != MORE && !library::closed(connection) {
-            return Err(End::Said(format!("closed, the box refuses to answer ({})", answers.refusal)));
+            let words = format!("closed, the box refuses to answer ({})", answers.refusal);
+            return Err(End::Said(Level::Error, "the box refuses to answer", words));
         }
         if !self.keeper.settle(&answers) {
-            return Err(End::Said("closed with no reply, the disk refused".into()));
+            return Err(End::Said(Level::Warning, "closed with no reply", "closed with no reply, the disk refused".into()));
         }
         Ok(answers.taken)
     }

@@ -1,5 +1,6 @@
 """A disk that refuses: what it refused was never so, and the server goes on with what is on disk."""
 import os
+import signal
 import threading
 
 import layout
@@ -146,4 +147,22 @@ def disk_unread(site):
     return f"{tries} changes refused while four connections read {reads} times: all saw the old value"
 
 
-TESTS = [disk, disk_unread]
+def disk_limit(site):
+    """A limit on the size of files, below the image's: changes are refused like any that the disk refuses, and the server goes on."""
+    path, box = site.format()
+    server = site.serve(path)
+    with Client(server.address, box) as client:
+        same("code of the first PUT", client.put(b"k", b"old", b"1"), 1)
+    server.end(signal.SIGTERM)
+    server = site.serve(path, under=["sh", "-c", 'ulimit -f 20; exec "$@"', "sh"])
+    for kind, (body, value) in CHANGES.items():
+        unanswered(server, box, kind.split()[0], body, value)
+        hold("the server ended", server.running())
+        hold("half an image was left", not os.path.exists(f"{path}.new"))
+    as_before(server, box, "changes over the limit")
+    server.end(signal.SIGTERM)
+    layout.same_image("after changes over the limit", path, box)
+    return f"{len(CHANGES)} changes over a limit on files: refused, and the server goes on"
+
+
+TESTS = [disk, disk_unread, disk_limit]

@@ -14,7 +14,7 @@ from wire import Client, Peer, code_of, number_of, pair
 
 IDLE = 2         # seconds after which the server closes a peer
 GROWTH = 16384   # kB that the server may have grown by
-LISTENING = "main", "listener"  # threads of a server that nobody is connected to
+LISTENING = "main", "listener", "log"  # threads of a server that nobody is connected to
 
 
 class Other(threading.Thread):

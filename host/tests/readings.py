@@ -109,4 +109,19 @@ def readings_start(site):
     return "a missing and a bad file at the start: none shown, said on standard error, and followed from then on"
 
 
-TESTS = [readings_file, readings_start]
+def readings_pipe(site):
+    """A pipe for a file of readings does not stop the start; it is named, and a file in its place is followed."""
+    path, box = site.format(blocks=2)
+    os.mkfifo(site.path("pipe"))
+    server = site.serve(path, "--readings", "pipe")
+    with Client(server.address, box) as client:
+        hold("readings of a pipe", shows(client, NO_READINGS))
+        said = soon("the pipe is named", server.errors)
+        hold(f"the pipe is not named: {said!r}", "pipe is not a file" in said)
+        site.write("next", LAST_GOOD[0])
+        os.replace(site.path("next"), site.path("pipe"))
+        followed(client, "a file where a pipe was", LAST_GOOD[1])
+    return "a pipe at the start: none shown, said on standard error, and a file in its place followed"
+
+
+TESTS = [readings_file, readings_start, readings_pipe]
