@@ -1,7 +1,7 @@
 """The client commands against a real server: what they do in the box, what they print, and how they end."""
 import layout
 import model
-from held import hold, same
+from held import PATIENCE, hold, same
 from program import KEY
 from readings import SILENT, followed
 from wire import Client, all_scope
@@ -25,7 +25,8 @@ class Commands:
         """A command to this server, with its key in a file unless it is None."""
         self.count += 1
         options = ["--server", f"127.0.0.1:{self.server.address[1]}", *(["--key-file", key] if key else [])]
-        return self.site.run(command, *options, *words, **given)
+        patience = [] if "--timeout" in words else ["--timeout", str(PATIENCE)]
+        return self.site.run(command, *options, *patience, *words, **given)
 
     def good(self, printed, command, *words, **given):
         """A command that succeeds; the image is the model's after it."""

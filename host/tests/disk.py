@@ -5,7 +5,7 @@ import threading
 
 import layout
 import model
-from held import Failed, Lost, hold, same
+from held import PATIENCE, Failed, Lost, hold, same
 from messages import table_tree
 from program import within
 from wire import Client, all_scope, code_of, pair, setup, value_of
@@ -132,8 +132,8 @@ def disk_unread(site):
     with Blocked(site):
         for watcher in watchers:
             watcher.start()
-        go_on = within(10 if site.thorough else 1.5)
-        while go_on():
+        go_on, in_time = within(10 if site.thorough else 1.5), within(PATIENCE)
+        while go_on() or in_time() and sum(watcher.count for watcher in watchers) <= tries and not any(watcher.failure for watcher in watchers):
             unanswered(server, box, "PUT", pair(b"k", b"2", force=1), b"not on disk")
             tries += 1
         until.set()

@@ -109,11 +109,16 @@ WAYS = {"another key at once": (65, lambda count, reply: resigned(reply, b"anoth
         "a closing reply, 20": (20, second(lambda reply: closing(20))), "a closing reply, 2": (2, second(lambda reply: closing(2)))}
 
 
+# Those for which the client must not wait long.
+SLOW = {"silent", "silent before the reply", "a byte now and then"}
+
+
 def impostors(site):
     """Servers that are no box of that key: the client ends with the code of docs/OPERATING.md, in time, and prints nothing on standard output."""
     for way, (code, spoil) in WAYS.items():
         impostor = Impostor(spoil)
-        done = site.run("noop", "--server", f"127.0.0.1:{impostor.port}", "--key-file", "key", "--timeout", "1")
+        seconds = 1 if way in SLOW else PATIENCE
+        done = site.run("noop", "--server", f"127.0.0.1:{impostor.port}", "--key-file", "key", "--timeout", str(seconds))
         impostor.end()
         same(f"{way}: exit code and output, with {done.err!r}", done[:2], (code, b"SUCCESS\n" if code == 0 else b""))
         hold(f"{way}: a message on standard error: {done.err!r}", (code == 0) == (done.err == ""))

@@ -60,6 +60,7 @@ def log(site):
     for level, wanted in ("error", set()), ("warning", {"warning"}), ("info", {"warning", "info"}):
         server = site.serve(path, "--log-level", level)
         rubbish(server, 2)
+        soon("refused peers are named", lambda server=server, wanted=wanted: not wanted or server.errors().count(REFUSED) == 2)
         server.end(signal.SIGTERM)
         same(f"levels with --log-level {level}", {level for _, level, _ in parsed(server.errors())}, wanted)
     same("serve --log-level loud", site.run("serve", "--image", path, "--log-level", "loud").code, 64)

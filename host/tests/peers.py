@@ -135,7 +135,6 @@ def deaf(server, _, other):
                 other.answered("a peer that never reads")
     else:
         raise Failed("a peer that never reads was not closed")
-    hold("a peer that never reads did not get stuck", stuck)
     peer.close()
     return 1
 

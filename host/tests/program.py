@@ -23,10 +23,12 @@ Done = collections.namedtuple("Done", "code out err")
 
 
 class Server:
-    """A server process, started by the words `under` where there are any. `address` is the plain listener's, `protected` the other's where there is one."""
+    """A server process, started by the words `under` where there are any. `address` is the plain listener's, `protected` the other's where there is one. If not
+    said otherwise, clients have long for their first requests."""
 
-    def __init__(self, site, image, words, under=()):
+    def __init__(self, site, image, words, under=(), patient=True):
         self.image = pathlib.Path(image)
+        words = [*words, *(["--first-request", str(PATIENCE)] if patient else [])]
         self.log = site.folder / f"server{len(site.servers)}.err"
         with open(self.log, "wb") as errors:
             self.process = subprocess.Popen([*under, site.program, "serve", "--image", image, "--listen", LOOPBACK + ":0", *words], stdin=subprocess.DEVNULL,
@@ -115,8 +117,8 @@ class Site:
         layout.write(self.path(name), box)
         return self.path(name)
 
-    def serve(self, image, *words, under=()):
-        return Server(self, image, words, under)
+    def serve(self, image, *words, **given):
+        return Server(self, image, words, **given)
 
     def run(self, *words, stdin=b"", environment=None, seconds=PATIENCE):
         """Runs a command of the program to its end."""
