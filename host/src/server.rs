@@ -123,7 +123,7 @@ impl Server {
 
     fn admit(self: &Arc<Server>, stream: TcpStream, peer: SocketAddr, protected: bool) {
         let Some(seat) = self.peers.admit(stream) else {
-            let words = format!("{peer}: closed, as many connections as may be are open already");
+            let words = format!("{peer}: closed, there is no place for it");
             return self.log.say(Level::Warning, "no place for a connection", words);
         };
         let server = self.clone();

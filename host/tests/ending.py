@@ -1,6 +1,7 @@
 """SIGINT and SIGTERM: the server accepts nothing more, finishes what it writes, and ends with 0, however it was started and whoever is connected."""
 import os
 import pathlib
+import re
 import signal
 import subprocess
 
@@ -50,7 +51,7 @@ def ends(site, path, box, how, under=()):
     held = [*holders(server, box), *([] if under else [deaf(server)])]
     if under == FIRST_PROCESS:
         inside = pathlib.Path(f"/proc/{child_of(server.pid)}/status").read_text()
-        hold("the server is process 1 of its namespace", any(line.startswith("NSpid:") and line.split()[-1] == "1" for line in inside.splitlines()))
+        hold("the server is process 1 of its namespace", re.search(r"^NSpid:.*\s1$", inside, re.M))
     os.kill(child_of(server.pid) if under == FIRST_PROCESS else server.pid, how)
     server.ended(0)
     layout.same_image(f"after {how.name}", path, box)
@@ -77,7 +78,7 @@ def handled(site, path):
 
 
 def ending_writing(site):
-    """A signal amid a write, on a disk that takes a second to sync: a newcomer is not answered, the write is finished and its reply sent, the exit code is 0."""
+    """A signal amid a write, on a disk that takes a second to sync: a newcomer is not answered, the write is finished and its reply sent, and it ends with 0."""
     subprocess.run([TOP / "tests" / "need", "strace", "strace"], check=True)
     path, box = site.format(blocks=4)
     for how in signal.SIGINT, signal.SIGTERM:
