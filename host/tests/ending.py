@@ -65,9 +65,8 @@ def ending(site):
     for under in ways.values():
         for how in signal.SIGINT, signal.SIGTERM:
             ends(site, path, box, how, under)
-    if "as process 1" not in ways:
-        handled(site, path)
-    return f"{len(ways)} ways to be started ({', '.join(ways)}), two signals each: ends with 0, and the image is the model's"
+    words = "" if "as process 1" in ways else handled(site, path)
+    return f"{len(ways)} ways to be started ({', '.join(ways)}), two signals each: ends with 0, and the image is the model's{words}"
 
 
 def handled(site, path):
@@ -75,6 +74,7 @@ def handled(site, path):
     status = pathlib.Path(f"/proc/{site.serve(path).pid}/status").read_text()
     caught = int(next(line.split()[1] for line in status.splitlines() if line.startswith("SigCgt:")), 16)
     hold("handlers of SIGINT and SIGTERM", all(caught >> number - 1 & 1 for number in (signal.SIGINT, signal.SIGTERM)))
+    return "; as process 1 held by its handlers alone, since no namespace may be made here"
 
 
 def ending_writing(site):

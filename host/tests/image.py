@@ -223,6 +223,7 @@ def image_lock_file(site):
     """FILE.lock that is a link, or has something in it: no file is cut, and no link followed."""
     path, box = site.format(blocks=2)
     lock, other = pathlib.Path(f"{path}.lock"), site.write("precious", b"not to be cut")
+    mode = mode_of(other)
     lock.unlink()
     lock.symlink_to(other)
     for words in ["serve", "--listen", "127.0.0.1:0"], ["rescue"], ["reset-table", "--key-file", "key"], ["format", "--key-file", "key", "--replace"]:
@@ -237,7 +238,7 @@ def image_lock_file(site):
     os.link(other, lock)
     with Client(site.serve(path).address, box) as client:
         same("code of a PUT", client.put(b"k", b"v"), 1)
-    same("a file that is FILE.lock too", (other.read_bytes(), other.stat().st_mode & 0o777), (b"not to be cut", 0o644))
+    same("a file that is FILE.lock too", (other.read_bytes(), mode_of(other)), (b"not to be cut", mode))
     return "4 commands with a link for FILE.lock, 1 with a link to nothing: refused; the file behind is whole, also where it is FILE.lock itself"
 
 
