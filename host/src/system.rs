@@ -44,8 +44,8 @@ extern "C" fn never_called(_: i32) {}
 pub struct EndSignals(SignalSet);
 
 impl EndSignals {
-    /// The handler is never called, since the signals are held back. It is there because a signal without one is dropped in process 1, and so is one that
-    /// whoever started this process ignores.
+    /// The handler is never called, since the signals are held back. It is there because POSIX leaves open whether a signal that is ignored, as whoever
+    /// started this process may have it, is kept while it is held back. Linux keeps it, in process 1 too.
     pub fn hold_back() -> io::Result<EndSignals> {
         let mut set = SignalSet([0; 16]);
         for number in [SIGINT, SIGTERM] {

@@ -122,22 +122,36 @@ def first_request(site):
 
 
 def no_farewell(site):
-    """Peers that the box refused and that hold on, on every place there is: the next is let in at once, and they make room before any other."""
+    """Peers that had signed, were then refused by the box and hold on, on every place there is: the next is let in at once, and nobody else makes room."""
     path, box = site.format(blocks=2)
     server = site.serve(path, "--connections", "3")
-    waiting = Client(server.address, box)
-    same("code of a first request", waiting.ask("NOOP"), 1)
+    waiting = signed_client(server, box)
     for n in range(10):
-        refused = [Peer(server.address) for _ in range(2)]
-        for peer in refused:
-            peer.send(messages.request("NOOP", None, b"", key=b"wrong", number=0, sequence=1).bytes())
-            same("code of a wrong signature", code_of(peer.frame()), 2)
+        refused = [signed_client(server, box) for _ in range(2)]
+        for client in refused:
+            client.peer.send(messages.request("NOOP", None, b"", key=b"wrong", number=client.number, sequence=99).bytes())
+            same("code of a wrong signature", code_of(client.peer.frame()), 2)
         with Client(server.address, box) as client:
             same("code of a PUT of one more", client.put(b"k", b"%d" % n, force=1), 1)
-        for peer in refused:
-            peer.close()
+        for client in refused:
+            client.peer.close()
     same("code of a NOOP of one that stood all the time", waiting.ask("NOOP"), 1)
     return "10 times 2 refused peers that held on: the next was let in meanwhile"
 
 
-TESTS = [silent, first_request, no_farewell]
+def longest(site):
+    """All places taken by peers who have not signed: each that comes takes the place of the one that has waited longest."""
+    path, box = site.format(blocks=2)
+    server = site.serve(path, "--connections", "4")
+    signed, standing = signed_client(server, box), [Peer(server.address) for _ in range(3)]
+    for _ in range(10):
+        standing.append(Peer(server.address))
+        first = standing.pop(0)
+        same("what one that made room got", first.rest(), b"")
+        first.close()
+        hold("another made room", all(map(open_still, standing)))
+    same("code of a NOOP of one that has signed", signed.ask("NOOP"), 1)
+    return "10 that came: each time the longest-waiting of 3 made room, and never the one that had signed"
+
+
+TESTS = [silent, first_request, no_farewell, longest]
