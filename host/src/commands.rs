@@ -53,7 +53,7 @@ const COMMANDS: [Command; 12] = [
     Command { name: "delete", message_type: 6, options: &["db-version"], flags: &["force"], parts: delete, printed: success },
     Command { name: "flush", message_type: 32, options: &[], flags: &[], parts: nothing, printed: success },
     Command { name: "setup", message_type: 22, options: &["new-cluster-version"], flags: &[], parts: setup, printed: success },
-    Command { name: "security", message_type: 26, options: &[], flags: &[], parts: security, printed: success },
+    Command { name: "security", message_type: 26, options: &[], flags: &["without-me"], parts: security, printed: success },
     Command { name: "log", message_type: 24, options: &[], flags: &[], parts: log, printed: readings },
 ];
 
@@ -71,8 +71,12 @@ pub fn run(name: &str, words: &[OsString]) -> Result<()> {
     print(printed)
 }
 
+fn identity_of(arguments: &Arguments) -> Result<i64> {
+    arguments.number("identity", i64::MIN, i64::MAX, 1)
+}
+
 fn connect(arguments: &Arguments) -> Result<Client> {
-    let identity = arguments.number("identity", i64::MIN, i64::MAX, 1)?;
+    let identity = identity_of(arguments)?;
     let cluster_version = arguments.number("cluster-version", i64::MIN, i64::MAX, 0)?;
     let timeout = Duration::from_secs(arguments.number("timeout", 1, 86400, 10)?.unsigned_abs());
     let server = match arguments.words("server")? {
@@ -153,7 +157,12 @@ fn setup(arguments: &Arguments) -> Result<Parts> {
 
 fn security(arguments: &Arguments) -> Result<Parts> {
     let [file] = arguments.plain.as_slice() else { return Err(Failure::usage("wanted: FILE")) };
-    let table = table_file::security(Path::new(file))?;
+    let (table, identities) = table_file::security(Path::new(file))?;
+    let sender = identity_of(arguments)?;
+    if !identities.contains(&sender) && !arguments.flag("without-me") {
+        let words = "which sends it and would be locked out (--without-me sends it all the same)";
+        return Err(Failure::data(format!("{}: the table lacks identity {sender}, {words}", Path::new(file).display())));
+    }
     Ok((Message::default().bytes(7, table.as_slice()).done(), Vec::new()))
 }
 
