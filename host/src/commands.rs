@@ -4,10 +4,11 @@ use crate::arguments::Arguments;
 use crate::client::{self, Account, Client, Reply, unreadable};
 use crate::failure::{Failure, Result};
 use crate::key::key_of;
+use crate::library::MOST_STORED;
 use crate::server::LISTEN;
 use crate::text::{ALGORITHMS, algorithm, print, shown};
-use crate::wire::{Fields, MOST_VALUE, Message};
-use crate::{input, table_file};
+use crate::wire::{Fields, Message};
+use crate::{input, table_file, tag};
 use std::ffi::OsString;
 use std::path::Path;
 use std::time::Duration;
@@ -26,6 +27,9 @@ const LIMITS: [(u64, &str); 7] = [
     (10, "maxIdentityCount"),
 ];
 
+/// More of a value's file is not read, so that a message can say how long one is that is over its limit.
+const MOST_VALUE_FILE: usize = 1 << 20;
+
 /// Body and value part of a request.
 type Parts = (Vec<u8>, Vec<u8>);
 
@@ -39,12 +43,12 @@ struct Command {
 }
 
 const PUT_OPTIONS: &[&str] = &["value-file", "new-version", "db-version", "tag", "algorithm"];
-const GET_FLAGS: &[&str] = &["metadata-only", "raw"];
+const GET_FLAGS: &[&str] = &["metadata-only", "raw", "unchecked"];
 const RANGE_FLAGS: &[&str] = &["start-inclusive", "end-inclusive", "reverse"];
 
 const COMMANDS: [Command; 12] = [
     Command { name: "noop", message_type: client::NOOP, options: &[], flags: &[], parts: nothing, printed: success },
-    Command { name: "put", message_type: 4, options: PUT_OPTIONS, flags: &["force"], parts: put, printed: success },
+    Command { name: "put", message_type: 4, options: PUT_OPTIONS, flags: &["force", "no-tag"], parts: put, printed: success },
     Command { name: "get", message_type: 2, options: &[], flags: GET_FLAGS, parts: get, printed: entry },
     Command { name: "version", message_type: 16, options: &[], flags: &[], parts: get, printed: version },
     Command { name: "next", message_type: 8, options: &[], flags: GET_FLAGS, parts: get, printed: entry },
@@ -67,8 +71,31 @@ pub fn run(name: &str, words: &[OsString]) -> Result<()> {
     let arguments = Arguments::read(words, &[&OPTIONS, command.options].concat(), command.flags)?;
     let (body, value) = (command.parts)(&arguments)?;
     let reply = connect(&arguments)?.ask(command.message_type, &body, &value)?;
+    compare(&arguments, &reply)?;
     let printed = (command.printed)(&arguments, &reply).map_err(unreadable)?;
     print(printed)
+}
+
+/// A reply signs the tag and not the value: where the tag is a SHA-1, the value must be the one that it is of.
+fn compare(arguments: &Arguments, reply: &Reply) -> Result<()> {
+    let pair = Fields::read(&reply.body).and_then(|body| body.message(1)).map_err(unreadable)?;
+    let (tag, algorithm) = tag_in(&pair).map_err(unreadable)?;
+    let wrong = tag::right(tag, algorithm, &reply.value) == Some(false);
+    if wrong && !left_out(arguments, reply) && !arguments.flag("unchecked") {
+        let words = "its SHA-1 is not the tag (--unchecked prints it all the same)";
+        return Err(Failure::data(format!("the value is not the one that was put: {words}")));
+    }
+    Ok(())
+}
+
+/// Tag and algorithm of a keyValue; 0 where it has none.
+fn tag_in<'a>(pair: &Fields<'a>) -> std::result::Result<(&'a [u8], i64), String> {
+    Ok((pair.bytes(5)?.unwrap_or_default(), pair.number(6)?.unwrap_or_default()))
+}
+
+/// Whether the value was not asked for.
+fn left_out(arguments: &Arguments, reply: &Reply) -> bool {
+    arguments.flag("metadata-only") && reply.value.is_empty()
 }
 
 fn identity_of(arguments: &Arguments) -> Result<i64> {
@@ -113,19 +140,34 @@ fn put(arguments: &Arguments) -> Result<Parts> {
         }
         None => arguments.plain_bytes(["KEY", "VALUE"])?.into(),
     };
-    let algorithm = arguments.words("algorithm")?.map(|name| place(&ALGORITHMS, name)).transpose()?;
-    let [new_version, db_version, tag] = [arguments.bytes("new-version")?, arguments.bytes("db-version")?, arguments.bytes("tag")?];
+    if value.len() > MOST_STORED {
+        return Err(Failure::data(format!("the value is {} bytes, where a box takes at most {MOST_STORED}", value.len())));
+    }
+    let (tag, algorithm) = tag_for(arguments, &value)?;
+    let [new_version, db_version] = [arguments.bytes("new-version")?, arguments.bytes("db-version")?];
     let named = Message::default().bytes(2, new_version.as_deref()).bytes(3, key.as_slice()).bytes(4, db_version.as_deref());
-    let tagged = named.bytes(5, tag.as_deref()).number(6, algorithm.map(|place| place + 1)).number(8, set(arguments, "force"));
+    let tagged = named.bytes(5, tag.as_deref()).number(6, algorithm).number(8, set(arguments, "force"));
     Ok((body(1, tagged), value))
+}
+
+/// Tag and algorithm as told, else the value's SHA-1.
+fn tag_for(arguments: &Arguments, value: &[u8]) -> Result<(Option<Vec<u8>>, Option<i64>)> {
+    let tag = arguments.bytes("tag")?;
+    let algorithm = arguments.words("algorithm")?.map(|name| place(&ALGORITHMS, name)).transpose()?;
+    match (tag, algorithm, arguments.flag("no-tag")) {
+        (None, None, false) => Ok((Some(tag::of(value).to_vec()), Some(tag::SHA1))),
+        (None, None, true) => Ok((None, None)),
+        (_, _, true) => Err(Failure::usage("--no-tag is there with --tag or --algorithm")),
+        (tag, algorithm, false) => Ok((tag, algorithm.map(|place| place + 1))),
+    }
 }
 
 /// A file's bytes as they are; `-` is standard input.
 fn value_in(path: &Path) -> Result<Vec<u8>> {
     if path == Path::new("-") {
-        input::all(std::io::stdin(), Path::new("standard input"), MOST_VALUE)
+        input::all(std::io::stdin(), Path::new("standard input"), MOST_VALUE_FILE)
     } else {
-        input::file(path, MOST_VALUE)
+        input::file(path, MOST_VALUE_FILE)
     }
 }
 
@@ -192,10 +234,12 @@ fn entry(arguments: &Arguments, reply: &Reply) -> Printed {
         return Ok(reply.value.clone());
     }
     let pair = Fields::read(&reply.body)?.message(1)?;
+    let (tag, number) = tag_in(&pair)?;
+    let verdict = if left_out(arguments, reply) { None } else { tag::verdict(tag, number, &reply.value) };
     let lines = [
         ("key", pair.bytes(3)?.map(shown)),
         ("version", pair.bytes(4)?.map(shown)),
-        ("tag", pair.bytes(5)?.map(shown)),
+        ("tag", verdict.or((!tag.is_empty()).then(|| shown(tag)))),
         ("algorithm", pair.number(6)?.map(algorithm)),
         ("value", (!reply.value.is_empty()).then(|| shown(&reply.value))),
     ];

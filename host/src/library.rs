@@ -8,6 +8,8 @@ pub const RECORD: usize = 2960;
 pub const CONNECTION: usize = 32;
 pub const READINGS: usize = 134;
 pub const REPLY: usize = 4096;
+/// The longest value that a block holds.
+pub const MOST_STORED: usize = 384;
 
 /// The longest frame: head, message and value part at their limits. Input of this length is never a proper start of one.
 pub const MOST_FRAME: usize = 9 + 8192 + 1024;

@@ -4,10 +4,12 @@ use crate::arguments::Arguments;
 use crate::failure::Result;
 use crate::image::Image;
 use crate::library::{BLOCK, RECORD};
+use crate::tag;
 use crate::text::{algorithm, print, shown, table};
 use std::ffi::OsString;
 
 const HEAD: [&str; 6] = ["place", "key", "version", "tag", "algorithm", "value"];
+const TAG: usize = 3;
 
 /// More of a value than this is cut in the table; the CSV has all.
 const MOST_SHOWN: usize = 48;
@@ -20,8 +22,7 @@ pub fn run(words: &[OsString]) -> Result<()> {
     if arguments.flag("csv") {
         return print(csv(&rows));
     }
-    let cut = |row: Vec<String>| row.into_iter().map(shortened).collect();
-    let rows: Vec<Vec<String>> = rows.into_iter().map(cut).collect();
+    let rows: Vec<Vec<String>> = rows.into_iter().zip(image.store.chunks(BLOCK)).map(|(row, block)| for_people(row, block)).collect();
     let (cluster, identities) = (number_at(&image.record, 0), identities(&image.record).join(", "));
     let closing = format!("{} of {} blocks used, cluster version {cluster}, identities {identities}\n", image.used(), image.blocks());
     print(table(&HEAD, &rows) + &closing)
@@ -33,6 +34,16 @@ fn row(place: usize, block: &[u8]) -> Vec<String> {
     let value = usize::from(u16::from_be_bytes([block[4], block[5]]));
     let algorithm = if block[6] == 0 { String::new() } else { algorithm(block[6].into()) };
     vec![place.to_string(), key_of_block(block), part(72, block[2].into()), part(88, block[3].into()), algorithm, part(120, value)]
+}
+
+/// A row of the table: what is long is cut, and of a SHA-1 it says whether it is the value's.
+fn for_people(row: Vec<String>, block: &[u8]) -> Vec<String> {
+    let mut words: Vec<String> = row.into_iter().map(shortened).collect();
+    let value = usize::from(u16::from_be_bytes([block[4], block[5]]));
+    if let Some(verdict) = tag::verdict(&block[88..88 + usize::from(block[3])], block[6].into(), &block[120..120 + value]) {
+        words[TAG] = verdict;
+    }
+    words
 }
 
 /// The key of a block, where its length is one.
