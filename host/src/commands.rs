@@ -5,6 +5,7 @@ use crate::client::{self, Account, Client, Reply, unreadable};
 use crate::failure::{Failure, Result};
 use crate::key::key_of;
 use crate::library::MOST_STORED;
+use crate::rows::{self, Cell};
 use crate::server::LISTEN;
 use crate::text::{ALGORITHMS, algorithm, print, shown};
 use crate::wire::{Fields, Message};
@@ -44,7 +45,7 @@ struct Command {
 
 const PUT_OPTIONS: &[&str] = &["value-file", "new-version", "db-version", "tag", "algorithm"];
 const GET_FLAGS: &[&str] = &["metadata-only", "raw", "unchecked"];
-const RANGE_FLAGS: &[&str] = &["start-inclusive", "end-inclusive", "reverse"];
+const RANGE_FLAGS: &[&str] = &["start-inclusive", "end-inclusive", "reverse", rows::FLAGS[0], rows::FLAGS[1]];
 
 const COMMANDS: [Command; 12] = [
     Command { name: "noop", message_type: client::NOOP, options: &[], flags: &[], parts: nothing, printed: success },
@@ -185,6 +186,7 @@ fn delete(arguments: &Arguments) -> Result<Parts> {
 
 fn range(arguments: &Arguments) -> Result<Parts> {
     let [start, end] = arguments.plain_bytes(["START", "END"])?;
+    rows::writer(arguments)?;
     let most = number(arguments, "max-returned", i32::MIN.into(), i32::MAX.into())?;
     let keys = Message::default().bytes(1, start.as_slice()).bytes(2, end.as_slice());
     let ends = keys.number(3, set(arguments, "start-inclusive")).number(4, set(arguments, "end-inclusive"));
@@ -252,9 +254,13 @@ fn version(_: &Arguments, reply: &Reply) -> Printed {
     Ok(format!("version {}\n", shown(version)).into_bytes())
 }
 
-fn keys(_: &Arguments, reply: &Reply) -> Printed {
-    let keys = Fields::read(&reply.body)?.message(2)?.each(8)?;
-    Ok(keys.into_iter().map(|key| shown(key) + "\n").collect::<String>().into_bytes())
+fn keys(arguments: &Arguments, reply: &Reply) -> Printed {
+    let keys: Vec<String> = Fields::read(&reply.body)?.message(2)?.each(8)?.into_iter().map(shown).collect();
+    let written = match rows::writer(arguments).map_err(|why| why.message)? {
+        Some(written) => written(&["key"], &keys.into_iter().map(|key| vec![Cell::Text(key)]).collect::<Vec<_>>()),
+        None => keys.into_iter().map(|key| key + "\n").collect(),
+    };
+    Ok(written.into_bytes())
 }
 
 /// Utilizations and temperatures as a file of readings has them; the rest by document 003's names.

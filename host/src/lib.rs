@@ -13,6 +13,7 @@ pub mod library;
 pub mod random;
 pub mod readings_file;
 pub mod rescue;
+pub mod rows;
 pub mod server;
 pub mod show;
 pub mod table_file;

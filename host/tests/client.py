@@ -1,5 +1,8 @@
 """The client commands against a real server: what they do in the box, what they print, and how they end."""
+import csv
 import hashlib
+import io
+import json
 
 import layout
 import model
@@ -129,6 +132,11 @@ def others(run):
     run.good(b"", "range", "a", "a", "--start-inclusive")
     run.good(b"a\n", "range", "a", "a", "--start-inclusive", "--end-inclusive")
     run.good(b"--key\n", "range", layout.text(ODD), "a")
+    rows = run.run("range", "", "\\xff", "--csv").out.decode()
+    same("range --csv", list(csv.reader(io.StringIO(rows, newline=""), strict=True)), [["key"], *([key[:-1]] for key in keys)])
+    same("lines of range --csv that end as RFC 4180 has it", rows.count("\r\n"), len(keys) + 1)
+    same("range --json", [json.loads(line) for line in run.run("range", "", "\\xff", "--json").out.splitlines()], [{"key": key[:-1]} for key in keys])
+    run.wrong(64, "range", "", "a", "--csv", "--json")
     run.refused(16, "range", "", "a", "--max-returned", "33")
     run.refused(16, "get", "")
     run.refused(16, "get", "k" * 65)

@@ -1,6 +1,7 @@
 """The image: made, shown, and refused where it is not whole; one server for each."""
 import csv
 import io
+import json
 import os
 import pathlib
 import socket
@@ -16,7 +17,7 @@ ALGORITHMS = ["", "SHA1", "SHA2", "SHA3", "CRC32C", "CRC64", "CRC32"]
 HEAD = ["place", "key", "version", "tag", "algorithm", "value"]
 ENTRIES = [model.Entry(b"\0", b"\xff" * 16, b'"', 1, b'a "quoted" word, and a comma'), model.Entry(b"=1+1", b",", b"\r\n", 2, bytes(range(256))),
            model.Entry(b"\\x41", b"\\", b"t" * 32, 3, b"w" * 384), model.Entry(b"k" * 64, b"", b"", 6, b" both ends "),
-           model.Entry("Öl".encode(), b"'", b"\t", 4, b"\n"), model.Entry(b"\xff" * 64)]
+           model.Entry("Öl".encode(), b"'", b"\t", 4, b"\n"), model.Entry("火炉/31,4 °C".encode() + b"\xe2\x82", "\u202e\x85".encode()), model.Entry(b"\xff" * 64)]
 TABLE = model.Table(-5, (model.Acl(1, KEY, (all_scope(),)), model.Acl(-77, b"secret of -77", (model.Scope(frozenset({0})),))))
 
 
@@ -72,13 +73,19 @@ def rows_of(entries):
 def shown_csv(site, path, entries, what):
     done = site.run("show", "--image", path, "--csv")
     same(f"show --csv {what}: exit code and error", (done.code, done.err), (0, ""))
-    same(f"rows of show --csv {what}", list(csv.reader(io.StringIO(done.out.decode("ascii"), newline=""), strict=True)), rows_of(entries))
+    same(f"rows of show --csv {what}", list(csv.reader(io.StringIO(done.out.decode(), newline=""), strict=True)), rows_of(entries))
     same(f"lines of show --csv {what} that end as RFC 4180 has it", done.out.count(b"\r\n"), len(entries) + 1)
     hold("a secret in the CSV", b"secret" not in done.out and KEY not in done.out)
+    lines = site.run("show", "--image", path, "--json")
+    same(f"show --json {what}: exit code and error", (lines.code, lines.err), (0, ""))
+    same(f"lines of show --json {what}", [list(json.loads(line).items()) for line in lines.out.decode().splitlines()],
+         [list(zip(HEAD, [int(row[0]), *row[1:]])) for row in rows_of(entries)[1:]])
+    hold("a secret in the JSON lines", b"secret" not in lines.out and KEY not in lines.out)
 
 
 def image_show(site):
-    """`show` has every key, `show --csv` all of every entry for Python's csv, also while the box serves; neither shows a secret or changes the image."""
+    """`show` has every key, `show --csv` and `--json` all of every entry for Python's csv and json, also while the box serves; none shows a secret or changes
+    the image."""
     path = site.image(box_of())
     for entries in ENTRIES, [], [model.Entry(b"k%03d" % n, value=b"v") for n in range(128)]:
         box = box_of(entries, 128 if len(entries) > 9 else 9)
@@ -93,15 +100,16 @@ def image_show(site):
     box = box_of()
     layout.write(path, box)
     server = site.serve(path)
-    same("blocks that the server names", (server.used, server.blocks), (6, 9))
+    same("blocks that the server names", (server.used, server.blocks), (7, 9))
     with Client(server.address, box) as client:
         shown_csv(site, path, ENTRIES, "while it serves")
         same("code of a PUT", client.put(b"more", b"new"), 1)
         shown_csv(site, path, model.entries_of(box.store), "after a PUT")
     same("mode of an image that a server wrote", mode_of(path), 0o600)
     same("show without an image's name", site.run("show").code, 64)
+    same("show --csv --json", site.run("show", "--image", path, "--csv", "--json").code, 64)
     same("show of no image", site.run("show", "--image", "missing").code, 74)
-    return f"{len(ENTRIES)} odd entries, 128 and none, read back by Python's csv, at rest and while serving"
+    return f"{len(ENTRIES)} odd entries, 128 and none, read back by Python's csv and json, at rest and while serving"
 
 
 def turned(data, place):
@@ -114,7 +122,7 @@ def damages(data):
         yield f"byte {place} of the head turned", turned(data, place), True
     for place in [0, 7, 8, 9, 16, 24, 40, 384, 500, 1000, 2959]:
         yield f"byte {place} of the record turned", turned(data, layout.RECORD_AT + place), True
-    for place in [0, 1, 7, 8, 72, 120, 511, 512, 5 * 512, 6 * 512, 9 * 512 - 1]:
+    for place in [0, 1, 7, 8, 72, 120, 511, 512, 6 * 512, 7 * 512, 9 * 512 - 1]:
         yield f"byte {place} of the store turned", turned(data, layout.STORE_AT + place), True
     first, second, third = (layout.STORE_AT + n * model.BLOCK for n in range(3))
     yield "two blocks changed over", data[:first] + data[second:third] + data[first:second] + data[third:], True

@@ -6,6 +6,8 @@ import model
 from held import Failed, hold, same
 
 MAGIC = b"RLADLE\0\1"
+HIDDEN = {*range(0x20), *range(0x7f, 0xa0), 0xad, 0x61c, *range(0x200b, 0x2010), *range(0x2028, 0x202f), *range(0x2060, 0x2070), 0xfeff,
+          *range(0xd800, 0xe000)}  # surrogates stand for bytes that are no UTF-8
 RECORD_AT, STORE_AT = 64, 64 + model.RECORD
 
 
@@ -56,5 +58,9 @@ def formatted(key, blocks=128):
 
 
 def text(data):
-    """Bytes as the program prints them."""
-    return "".join("\\\\" if byte == 92 else chr(byte) if 32 <= byte <= 126 else f"\\x{byte:02x}" for byte in data)
+    """Bytes as the program prints them: control characters, what is not seen, and what is no UTF-8 as escapes."""
+    def one(character):
+        if ord(character) in HIDDEN:
+            return "".join(f"\\x{byte:02x}" for byte in character.encode(errors="surrogateescape"))
+        return "\\\\" if character == "\\" else character
+    return "".join(map(one, data.decode(errors="surrogateescape")))
