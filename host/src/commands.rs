@@ -14,7 +14,7 @@ use std::ffi::OsString;
 use std::path::Path;
 use std::time::Duration;
 
-const OPTIONS: [&str; 5] = ["server", "identity", "key-file", "cluster-version", "timeout"];
+pub const OPTIONS: [&str; 5] = ["server", "identity", "key-file", "cluster-version", "timeout"];
 const LOG_TYPES: [&str; 8] = ["utilizations", "temperatures", "capacities", "configuration", "statistics", "messages", "limits", "device"];
 
 /// Document 003's limits that a box shows.
@@ -103,7 +103,7 @@ fn identity_of(arguments: &Arguments) -> Result<i64> {
     arguments.number("identity", i64::MIN, i64::MAX, 1)
 }
 
-fn connect(arguments: &Arguments) -> Result<Client> {
+pub fn connect(arguments: &Arguments) -> Result<Client> {
     let identity = identity_of(arguments)?;
     let cluster_version = arguments.number("cluster-version", i64::MIN, i64::MAX, 0)?;
     let timeout = Duration::from_secs(arguments.number("timeout", 1, 86400, 10)?.unsigned_abs());
@@ -268,8 +268,10 @@ fn readings(_: &Arguments, reply: &Reply) -> Printed {
     let log = Fields::read(&reply.body)?.message(6)?;
     let mut lines = Vec::new();
     for (field, kind, unit) in [(2, "utilization", ""), (3, "temperature", " C")] {
-        let named = log.each(field)?.into_iter().map(named_value).collect::<std::result::Result<Vec<_>, _>>()?;
-        lines.extend(named.into_iter().map(|named| format!("{kind} {named}{unit}\n")));
+        for reading in log.each(field)? {
+            let (name, value) = reading_of(reading)?;
+            lines.push(format!("{kind} {name} {}{unit}\n", value.map_or("-".to_string(), |value| value.to_string())));
+        }
     }
     let capacity = log.message(4)?;
     lines.extend(capacity.number(4)?.map(|bytes| format!("nominalCapacityInBytes {bytes}\n")));
@@ -281,9 +283,8 @@ fn readings(_: &Arguments, reply: &Reply) -> Printed {
     Ok(lines.concat().into_bytes())
 }
 
-/// Name and value of a reading; a silent one has a dash.
-fn named_value(reading: &[u8]) -> std::result::Result<String, String> {
+/// Name and value of a reading; a silent one has no value.
+pub fn reading_of(reading: &[u8]) -> std::result::Result<(String, Option<f32>), String> {
     let fields = Fields::read(reading)?;
-    let value = fields.float(2)?.map_or("-".to_string(), |value| value.to_string());
-    Ok(format!("{} {value}", shown(fields.bytes(1)?.unwrap_or_default())))
+    Ok((shown(fields.bytes(1)?.unwrap_or_default()), fields.float(2)?))
 }

@@ -16,6 +16,7 @@ pub mod rescue;
 pub mod rows;
 pub mod server;
 pub mod show;
+pub mod status;
 pub mod table_file;
 pub mod tag;
 pub mod text;

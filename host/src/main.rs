@@ -1,5 +1,5 @@
 use ridgeladle::failure::{Failure, Result};
-use ridgeladle::{commands, format, rescue, say, server, show, text};
+use ridgeladle::{commands, format, rescue, say, server, show, status, text};
 use std::ffi::OsString;
 use std::process::ExitCode;
 
@@ -23,6 +23,7 @@ fn command(name: &str, words: &[OsString]) -> Result<()> {
         "format" => format::run(words),
         "show" => show::run(words),
         "rescue" => rescue::run(words),
+        "status" => status::run(words),
         "help" | "--help" | "-h" => text::print(HELP),
         _ if commands::known(name) => commands::run(name, words),
         _ => Err(Failure::usage("no such command; 'ridgeladle help' lists them")),

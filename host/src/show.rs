@@ -26,7 +26,7 @@ pub fn run(words: &[OsString]) -> Result<()> {
         return print(written(&HEAD, &all));
     }
     let rows: Vec<Vec<String>> = all.iter().zip(used).map(|(row, block)| for_people(row, block)).collect();
-    let (cluster, identities) = (number_at(&image.record, 0), identities(&image.record).join(", "));
+    let (cluster, identities) = (cluster_version(&image.record), identities(&image.record).join(", "));
     let closing = format!("{} of {} blocks used, cluster version {cluster}, identities {identities}\n", image.used(), image.blocks());
     print(table(&HEAD, &rows) + &closing)
 }
@@ -63,6 +63,10 @@ pub fn key_of_block(block: &[u8]) -> String {
 
 fn shortened(word: String) -> String {
     if word.chars().count() > MOST_SHOWN { word.chars().take(MOST_SHOWN - 1).chain(['…']).collect() } else { word }
+}
+
+pub fn cluster_version(record: &[u8; RECORD]) -> i64 {
+    number_at(record, 0)
 }
 
 fn number_at(record: &[u8; RECORD], at: usize) -> i64 {
