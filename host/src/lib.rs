@@ -5,6 +5,7 @@ pub mod client;
 pub mod commands;
 pub mod failure;
 pub mod format;
+pub mod help;
 pub mod image;
 pub mod input;
 pub mod keeper;

@@ -1,9 +1,7 @@
 use ridgeladle::failure::{Failure, Result};
-use ridgeladle::{commands, format, rescue, say, server, show, status, text};
+use ridgeladle::{commands, format, help, rescue, say, server, show, status, text};
 use std::ffi::OsString;
 use std::process::ExitCode;
-
-const HELP: &str = include_str!("help.txt");
 
 fn main() -> ExitCode {
     let words: Vec<OsString> = std::env::args_os().skip(1).collect();
@@ -18,13 +16,18 @@ fn main() -> ExitCode {
 }
 
 fn command(name: &str, words: &[OsString]) -> Result<()> {
+    let asked = words.iter().take_while(|word| *word != "--").any(|word| word == "--help");
+    if let Some(paragraph) = help::of(name).filter(|_| asked) {
+        return text::print(paragraph);
+    }
     match name {
         "serve" => server::run(words),
         "format" => format::run(words),
         "show" => show::run(words),
         "rescue" => rescue::run(words),
         "status" => status::run(words),
-        "help" | "--help" | "-h" => text::print(HELP),
+        "help" | "--help" | "-h" => text::print(help::ALL),
+        "--version" => text::print(help::VERSION),
         _ if commands::known(name) => commands::run(name, words),
         _ => Err(Failure::usage("no such command; 'ridgeladle help' lists them")),
     }
