@@ -18,7 +18,7 @@ test:
 	rt fmt --check
 	tests/gate
 
-# A shift at a foundry in a few seconds: timers of old and new firmware, a tablet and the office.
+# Half an hour at a foundry in a few seconds, by docs/SITES.md: timers of old and new firmware, a tablet and the office.
 demo:
 	host/build
 	host/demo

@@ -210,4 +210,22 @@ def sites_20(site):
     return played(site, 20)
 
 
-TESTS = [sites_1, sites_8, sites_20]
+def sites_demo(site):
+    """`make demo`, in a second, ends well and follows the plan for eight timers."""
+    plan, source = Plan(site, site.folder, 8), (TOP / "host" / "demo").read_text()
+    said = re.search(r'^GROUPS, EACH, SLOTS = "(\w+)", (\d+), (\d+)$', source, re.M).groups() + re.search(r"^LOOK = (\d+)", source, re.M).groups()
+    same("groups, timers of a group, slots and the tablet's time", said, (plan.letters, str(plan.each), str(plan.slots), str(plan.round)))
+    path, _ = site.format()
+    server = site.serve(path, "--protected-listen", "127.0.0.1:0")
+    words = ["--server", "%s:%d" % server.address, "--protected-server", "%s:%d" % server.protected, "--key-file", site.path("key"), "--seconds", "1"]
+    done = subprocess.run([TOP / "host" / "demo", *words], capture_output=True, text=True, timeout=MINUTES, check=False)
+    same(f"exit code and error of the demo, which said {done.stdout}", (done.returncode, done.stderr), (0, ""))
+    last = done.stdout.splitlines()[-1]
+    hold(f"the demo's last line: {last}", last.endswith("every answer was the one expected."))
+    used = {entry.key for entry in model.entries_of(layout.read(path).store)}
+    same("the keys that it left", used, {b"timer/%s/%d/%02d" % (group.encode(), n + 1, slot)
+                                         for group in plan.letters for n in range(plan.each) for slot in range(plan.slots)})
+    return last
+
+
+TESTS = [sites_1, sites_8, sites_20, sites_demo]
