@@ -1,4 +1,5 @@
-//! Tags that are a SHA-1, made by the proved digest. A message signs the tag and not the value beside it, so the tag says whether a value is the one that was put.
+//! Tags that are a SHA-1, made by the proved digest. A message signs the tag and not the value beside it, so the tag says whether a value is the one
+//! that was put.
 
 use crate::library;
 

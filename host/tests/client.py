@@ -182,7 +182,8 @@ def wrong_words(run):
     for command, words in WORDS.items():
         if words:
             run.wrong(64, command, *words[1:])
-    for command in "put a x --algorithm MD5", "put a x --no-tag --tag t", "put a x --no-tag --algorithm SHA1", "put a x --value-file value", "put a --new-version 1", "get \\n", "get \\x4", "put a \\", "put a x --tag \\xg0", \
+    for command in "put a x --algorithm MD5", "put a x --no-tag --tag t", "put a x --no-tag --algorithm SHA1", \
+            "put a x --value-file value", "put a --new-version 1", "get \\n", "get \\x4", "put a \\", "put a x --tag \\xg0", \
             "range a b --max-returned many", "setup --new-cluster-version 1.5", "noop --identity 9223372036854775808", "noop --timeout 0", "get a --force":
         run.wrong(64, *command.split(" "))
     run.wrong(74, "put", "a", "--value-file", "missing")

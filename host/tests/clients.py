@@ -24,7 +24,8 @@ CLIENT = TOP / "examples" / "client.py"
 MINUTES = 180
 NUMBER, TIMER, SECRET = -0x123456789abcdf0, 7, b"furnace 7"
 PUT_KEY, VALUE = b"timer/7/0001", b"WBGT 31.4 C"
-TABLE = model.Table(0, (model.Acl(1, KEY, (all_scope(),)), model.Acl(TIMER, SECRET, (model.Scope(frozenset({model.READ, model.WRITE, model.RANGE}), 0, b"timer/"),))))
+SCOPE = model.Scope(frozenset({model.READ, model.WRITE, model.RANGE}), 0, b"timer/")
+TABLE = model.Table(0, (model.Acl(1, KEY, (all_scope(),)), model.Acl(TIMER, SECRET, (SCOPE,))))
 
 # Document 003's names of the fields that the example has, by the way to them.
 NAMES = {(4,): "authType", (5,): "hmacAuth", (5, 1): "identity", (5, 2): "hmac", (7,): "commandBytes", (7, 1): "header", (7, 1, 3): "connectionID",
@@ -104,7 +105,8 @@ def clients_bytes(site):
 
 def example(server, identity, key, *words):
     """Runs examples/client.py, without the folder's modules beside it."""
-    done = subprocess.run([sys.executable, "-I", CLIENT, "%s:%d" % server, str(identity), key, *words], capture_output=True, text=True, timeout=MINUTES, check=False)
+    words = [sys.executable, "-I", CLIENT, "%s:%d" % server, str(identity), key, *words]
+    done = subprocess.run(words, capture_output=True, text=True, timeout=MINUTES, check=False)
     return done.returncode, done.stdout, done.stderr
 
 
@@ -126,7 +128,8 @@ def clients_example(site):
     same("get of it", example(at, TIMER, key, "get", name), (0, "WBGT 31,4 °C\n", ""))
     same("put of an empty value", example(at, TIMER, key, "put", "timer/8", ""), (0, "", ""))
     same("keys", example(at, TIMER, key, "keys", "timer/", "timer/~"), (0, "timer/7/0001\ntimer/8\n", ""))
-    for words, code in (["get", "timer/9"], 7), (["get", "other"], 3), (["put", "other", "x"], 3), (["put", "timer/9", "x"], 14), (["put", "timer/8", "x" * 385], 16):
+    for words, code in (["get", "timer/9"], 7), (["get", "other"], 3), (["put", "other", "x"], 3), (["put", "timer/9", "x"], 14), \
+            (["put", "timer/8", "x" * 385], 16):
         same(f"{words[:2]}", example(at, TIMER, key, *words), (1, "", f"the box answered {code}\n"))
     same("a wrong key", example(at, TIMER, wrong, "get", name), (1, "", "the box closed the connection\n"))
     site.run("put", name, "WBGT 31.4 C", "--force", "--server", "%s:%d" % at, "--key-file", "key")

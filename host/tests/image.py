@@ -17,7 +17,8 @@ ALGORITHMS = ["", "SHA1", "SHA2", "SHA3", "CRC32C", "CRC64", "CRC32"]
 HEAD = ["place", "key", "version", "tag", "algorithm", "value"]
 ENTRIES = [model.Entry(b"\0", b"\xff" * 16, b'"', 1, b'a "quoted" word, and a comma'), model.Entry(b"=1+1", b",", b"\r\n", 2, bytes(range(256))),
            model.Entry(b"\\x41", b"\\", b"t" * 32, 3, b"w" * 384), model.Entry(b"k" * 64, b"", b"", 6, b" both ends "),
-           model.Entry("Öl".encode(), b"'", b"\t", 4, b"\n"), model.Entry("火炉/31,4 °C".encode() + b"\xe2\x82", "\u202e\x85".encode()), model.Entry(b"\xff" * 64)]
+           model.Entry("Öl".encode(), b"'", b"\t", 4, b"\n"), model.Entry("火炉/31,4 °C".encode() + b"\xe2\x82", "\u202e\x85".encode()),
+           model.Entry(b"\xff" * 64)]
 TABLE = model.Table(-5, (model.Acl(1, KEY, (all_scope(),)), model.Acl(-77, b"secret of -77", (model.Scope(frozenset({0})),))))
 
 

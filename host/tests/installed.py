@@ -68,7 +68,8 @@ def service(destination, at, prefix):
 
 
 def installed(site):
-    """`make install` with PREFIX and DESTDIR: these files and no others, a program that runs, a library that links by its pkg-config file, a unit that starts."""
+    """`make install` with PREFIX and DESTDIR: these files and no others, a program that runs, a library that links by its pkg-config file, and a service
+    unit."""
     for prefix in "/usr", "/opt/the box":
         destination = site.path("destination")
         at = destination / prefix.lstrip("/")

@@ -11,8 +11,8 @@ READINGS = b"temperature HDA 36.5 C\ntemperature board 98.6 F\nutilization EN0 0
 LINES = b"temperature HDA 36.5 C\ntemperature board 37 C\n"
 ACLS = model.Acl(1, KEY, (all_scope(),)), model.Acl(2, KEY, (model.Scope(frozenset({model.READ})),))
 # How many of how many blocks are used, options, and the exit code: 90 % is the limit if not said.
-FULL = [(0, 1, [], 0), (1, 1, [], 75), (8, 9, [], 0), (9, 10, [], 75), (115, 128, [], 0), (116, 128, [], 75), (128, 128, [], 75), (116, 128, ["--most-used", "91"], 0),
-        (1, 128, ["--most-used", "1"], 0), (2, 128, ["--most-used", "1"], 75), (127, 128, ["--most-used=100"], 0)]
+FULL = [(0, 1, [], 0), (1, 1, [], 75), (8, 9, [], 0), (9, 10, [], 75), (115, 128, [], 0), (116, 128, [], 75), (128, 128, [], 75),
+        (116, 128, ["--most-used", "91"], 0), (1, 128, ["--most-used", "1"], 0), (2, 128, ["--most-used", "1"], 75), (127, 128, ["--most-used=100"], 0)]
 
 
 def box_of(used, blocks, cluster=0):
