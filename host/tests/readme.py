@@ -4,9 +4,10 @@ import re
 import signal
 import stat
 import subprocess
+import time
 
-from held import hold, same, soon
-from program import TOP
+from held import hold, same
+from program import TOP, within
 
 MINUTES = 180  # seconds for a command, or for the server to be ready or ended
 
@@ -27,7 +28,9 @@ class Run:
         self.said = site.path("run.out")
 
     def __enter__(self):
-        soon("make run says what to try", lambda: "Ctrl-C" in self.said.read_text() or self.process.poll() is not None, MINUTES)
+        waiting = within(MINUTES)
+        while waiting() and "Ctrl-C" not in self.said.read_text() and self.process.poll() is None:
+            time.sleep(.02)
         self.address = re.search(r" on (127\.0\.0\.1:\d+),", self.said.read_text())
         hold(f"make run says where it serves: {self.said.read_text()!r}", self.address)
         return self

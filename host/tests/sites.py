@@ -10,6 +10,7 @@ import pathlib
 import re
 import subprocess
 import tempfile
+import time
 
 import layout
 import model
@@ -184,6 +185,16 @@ class Plan:
         same("what the box holds", model.entries_of(layout.read(self.image).store), wanted)
 
 
+    def example(self):
+        """The commands of one timer, as docs/SITES.md has them: a reading that is some seconds old, in its slot."""
+        text = re.search(r"```\n(now=.*?)```", (TOP / "docs" / "SITES.md").read_text(), re.S)[1]
+        same("the commands of a timer", self.shell("reading='WBGT 31.4 C'; " + text), "SUCCESS\n")
+        newest = max(model.entries_of(layout.read(self.image).store), key=lambda entry: int(entry.version))
+        at = int(newest.version)
+        same("key and value of the reading", (newest.key, newest.value), (b"timer/b/2/%02d" % (at // 30 % self.slots), b"WBGT 31.4 C"))
+        hold(f"a reading of now: {newest}", time.time() - MINUTES < at <= time.time())
+
+
 def played(site, timers):
     with tempfile.TemporaryDirectory(dir=MEMORY if os.access(MEMORY, os.W_OK) else None) as room:
         plan = Plan(site, room, timers)
@@ -191,6 +202,8 @@ def played(site, timers):
         put, got = plan.day()
         same("readings put and read", (put, got), (timers * READINGS, timers * READINGS))
         plan.ended()
+        if timers == 8:
+            plan.example()
         plan.server.end()
     return f"a day of {put} readings in {plan.places} places, each read back, with all other places taken"
 

@@ -2,11 +2,12 @@
 import re
 import socket
 import subprocess
+import time
 
 import model
 from client import Commands
-from held import hold, same, soon
-from program import KEY, LOOPBACK, TOP
+from held import hold, same
+from program import KEY, LOOPBACK, TOP, within
 from wire import all_scope
 
 MINUTES = 180
@@ -26,8 +27,10 @@ class Stunnel:
             self.process = subprocess.Popen(["stunnel4", path], stdin=subprocess.DEVNULL, stdout=log, stderr=log, cwd=site.folder)
 
     def ready(self, port):
-        soon(f"stunnel is there: {self.log.read_text()}", lambda: self.process.poll() is not None or taken(port), MINUTES)
-        hold(f"stunnel ended: {self.log.read_text()}", self.process.poll() is None)
+        waiting = within(MINUTES)
+        while waiting() and not taken(port) and self.process.poll() is None:
+            time.sleep(.02)
+        hold(f"stunnel is not there: {self.log.read_text()}", self.process.poll() is None and taken(port))
 
     def end(self):
         self.process.kill()
