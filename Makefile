@@ -1,8 +1,16 @@
-.PHONY: run test demo programs bench conformance mutants fuzz
+.PHONY: run build install test demo programs bench conformance mutants fuzz
 
 # A box on loopback, proved and built first, with three commands to try.
 run:
 	host/run
+
+# The program over the proved library, proved first where that is not there yet.
+build:
+	host/build
+
+# What was built: program, library, header, pkg-config file, man page and service unit, under PREFIX (/usr/local) and DESTDIR.
+install:
+	PREFIX='$(PREFIX)' DESTDIR='$(DESTDIR)' host/install
 
 # What takes seconds first; then the toolchain's gate, whose line is the last.
 test:
@@ -11,7 +19,7 @@ test:
 	rt fmt --check
 	tests/gate
 
-# A shift at a foundry in a few seconds: timers of old and new firmware, a tablet and the office.
+# Half an hour at a foundry in a few seconds, by docs/SITES.md: timers of old and new firmware, a tablet and the office.
 demo:
 	host/build
 	host/demo

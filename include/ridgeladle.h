@@ -22,6 +22,13 @@
 extern "C" {
 #endif
 
+/* The version of this header and of what is installed with it: as text, and as 10,000 times the first number plus 100 times the second plus the third. */
+#define RIDGELADLE_VERSION "1.0.0"
+#define RIDGELADLE_VERSION_NUMBER 10000
+
+/* The number of the version that a program was compiled with, for programs that can't use the macro. */
+static inline uint32_t ridgeladle_version(void) { return RIDGELADLE_VERSION_NUMBER; }
+
 enum {
     RIDGELADLE_BLOCK = 512,      /* a store is 1 to 128 blocks */
     RIDGELADLE_RECORD = 2960,    /* bytes of a device record */

@@ -33,6 +33,11 @@ impl Failure {
         Failure { code: 74, message: message.to_string() }
     }
 
+    /// A limit that was asked about is reached.
+    pub fn limit(message: impl Display) -> Failure {
+        Failure { code: 75, message: message.to_string() }
+    }
+
     /// The system could not do it to that file.
     pub fn file(path: &Path, why: io::Error) -> Failure {
         Failure::system(format!("{}: {why}", path.display()))

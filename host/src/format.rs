@@ -2,9 +2,10 @@
 
 use crate::arguments::Arguments;
 use crate::failure::{Failure, Result};
-use crate::image::{Image, Place};
+use crate::image::Image;
 use crate::key::key_of;
 use crate::library::MOST_BLOCKS;
+use crate::place::Place;
 use crate::text::print;
 use std::ffi::OsString;
 

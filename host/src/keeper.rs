@@ -1,9 +1,9 @@
 //! The box in memory and on disk: every reply waits until the state that it was answered from is on disk, and changes that wait are written together.
 
-use crate::image::{Image, Place};
-use crate::library::{self, CONNECTION, READINGS, REPLY};
-use crate::say;
-use std::io;
+use crate::image::Image;
+use crate::library::{self, CONNECTION, NO_SPACE, READINGS, REPLY};
+use crate::log::{Level, Log};
+use crate::place::Place;
 use std::sync::{Arc, Condvar, Mutex, MutexGuard, OnceLock, PoisonError};
 
 /// Changes that go to disk together: whether they got there, once that is known.
@@ -18,12 +18,22 @@ struct Held {
     /// Changes that no one is writing yet, and those that someone is writing now.
     waiting: Option<Turn>,
     writing: Option<Turn>,
+    ended: bool,
+    warned: Warned,
+}
+
+/// What was said of the room that is left; said again once it was otherwise.
+#[derive(Default)]
+struct Warned {
+    nearly: bool,
+    full: bool,
 }
 
 pub struct Keeper {
     held: Mutex<Held>,
     written: Condvar,
     place: Place,
+    log: Arc<Log>,
 }
 
 /// What the box answered to some input.
@@ -36,9 +46,19 @@ pub struct Answers {
 }
 
 impl Keeper {
-    pub fn new(place: Place, image: Image) -> Keeper {
-        let held = Held { seen: image.clone(), on_disk: image.clone(), image, readings: [0; READINGS], waiting: None, writing: None };
-        Keeper { held: Mutex::new(held), written: Condvar::new(), place }
+    pub fn new(place: Place, image: Image, log: Arc<Log>) -> Keeper {
+        let (seen, on_disk, readings) = (image.clone(), image.clone(), [0; READINGS]);
+        let mut held = Held { image, seen, on_disk, readings, waiting: None, writing: None, ended: false, warned: Warned::default() };
+        let warning = held.room();
+        let keeper = Keeper { held: Mutex::new(held), written: Condvar::new(), place, log };
+        keeper.warn(warning);
+        keeper
+    }
+
+    fn warn(&self, warning: Option<String>) {
+        if let Some(words) = warning {
+            self.log.say(Level::Warning, "the box is full, or nearly", words);
+        }
     }
 
     /// A thread that panicked left the image as a call of the library left it, which is whole.
@@ -50,26 +70,16 @@ impl Keeper {
         self.lock().readings = readings;
     }
 
-    /// Answers each whole request at the start of the input, and appends the replies.
-    pub fn answer(&self, connection: &mut [u8; CONNECTION], input: &[u8], replies: &mut Vec<u8>) -> Answers {
+    /// Answers each whole request at the start of the input, and appends the replies. None where nothing is answered any more.
+    pub fn answer(&self, connection: &mut [u8; CONNECTION], input: &[u8], replies: &mut Vec<u8>) -> Option<Answers> {
         let mut held = self.lock();
-        let held = &mut *held;
-        let (mut taken, mut out) = (0, [0; REPLY]);
-        let refusal = loop {
-            let Image { record, store } = &mut held.image;
-            match library::answer(store, record, connection, &held.readings, &input[taken..], &mut out) {
-                Ok((more, written)) => {
-                    taken += more;
-                    replies.extend(&out[..written]);
-                }
-                Err(refusal) => break refusal,
-            }
-        };
-        if held.image != held.seen {
-            held.seen.clone_from(&held.image);
-            held.waiting.get_or_insert_default();
+        if held.ended {
+            return None;
         }
-        Answers { taken, turn: held.waiting.clone().or(held.writing.clone()), refusal }
+        let (answers, warning) = held.answer(connection, input, replies);
+        drop(held);
+        self.warn(warning);
+        Some(answers)
     }
 
     /// Whether what was answered is on disk. Who waits first writes for all that wait; false where the disk refused, and the changes were taken back.
@@ -80,10 +90,23 @@ impl Keeper {
             if let Some(kept) = turn.get() {
                 return *kept;
             }
-            held = match held.writing {
-                Some(_) => self.written.wait(held).unwrap_or_else(PoisonError::into_inner),
-                None => self.write(held),
-            };
+            held = self.wait_or_write(held);
+        }
+    }
+
+    /// Nothing is answered from here on; when this returns, nothing waits for the disk.
+    pub fn end(&self) {
+        let mut held = self.lock();
+        held.ended = true;
+        while held.waiting.is_some() || held.writing.is_some() {
+            held = self.wait_or_write(held);
+        }
+    }
+
+    fn wait_or_write<'a>(&'a self, held: MutexGuard<'a, Held>) -> MutexGuard<'a, Held> {
+        match held.writing {
+            Some(_) => self.written.wait(held).unwrap_or_else(PoisonError::into_inner),
+            None => self.write(held),
         }
     }
 
@@ -92,25 +115,61 @@ impl Keeper {
         let image = held.image.clone();
         drop(held);
         let outcome = self.place.write(&image);
+        if let Err(why) = &outcome {
+            let words = format!("the image can't be written: {why}; changes since the last good write are taken back");
+            self.log.say(Level::Error, "the image can't be written", words);
+        }
         let mut held = self.lock();
-        held.finish(image, outcome);
+        held.finish(image, outcome.is_ok());
         self.written.notify_all();
         held
     }
 }
 
 impl Held {
-    /// What was changed on top of changes that the disk refused is taken back with them.
-    fn finish(&mut self, image: Image, outcome: io::Result<()>) {
-        let kept = outcome.is_ok();
-        let done = [self.writing.take(), if kept { None } else { self.waiting.take() }];
-        match outcome {
-            Ok(()) => self.on_disk = image,
-            Err(why) => {
-                say(format!("the image can't be written: {why}; changes since the last good write are taken back"));
-                self.image.clone_from(&self.on_disk);
-                self.seen.clone_from(&self.on_disk);
+    /// Beside the answers a warning, where one is due.
+    fn answer(&mut self, connection: &mut [u8; CONNECTION], input: &[u8], replies: &mut Vec<u8>) -> (Answers, Option<String>) {
+        let (mut taken, mut out, mut no_space) = (0, [0; REPLY], false);
+        let refusal = loop {
+            let Image { record, store } = &mut self.image;
+            match library::answer(store, record, connection, &self.readings, &input[taken..], &mut out) {
+                Ok((more, written)) => {
+                    taken += more;
+                    replies.extend(&out[..written]);
+                    no_space |= library::status(&out) == NO_SPACE;
+                }
+                Err(refusal) => break refusal,
             }
+        };
+        let mut warning = None;
+        if self.image != self.seen {
+            self.seen.clone_from(&self.image);
+            self.waiting.get_or_insert_default();
+            warning = self.room();
+        }
+        if no_space && !self.warned.full {
+            self.warned.full = true;
+            warning = Some(format!("a PUT was answered NO_SPACE: all {} blocks are used", self.image.blocks()));
+        }
+        (Answers { taken, turn: self.waiting.clone().or(self.writing.clone()), refusal }, warning)
+    }
+
+    /// A warning where nine of ten blocks have come to be used.
+    fn room(&mut self) -> Option<String> {
+        let (used, blocks) = (self.image.used(), self.image.blocks());
+        let before = std::mem::replace(&mut self.warned.nearly, 10 * used >= 9 * blocks);
+        self.warned.full &= used == blocks;
+        (self.warned.nearly && !before).then(|| format!("{used} of {blocks} blocks are used: 90 % or more"))
+    }
+
+    /// What was changed on top of changes that the disk refused is taken back with them.
+    fn finish(&mut self, image: Image, kept: bool) {
+        let done = [self.writing.take(), if kept { None } else { self.waiting.take() }];
+        if kept {
+            self.on_disk = image;
+        } else {
+            self.image.clone_from(&self.on_disk);
+            self.seen.clone_from(&self.on_disk);
         }
         for turn in done.into_iter().flatten() {
             let _ = turn.set(kept);

@@ -1,4 +1,4 @@
-//! The proved calls of include/ridgeladle.h. What the host owes them is kept here, and all `unsafe` of the program is in this file: each length is that of the
+//! The proved calls of include/ridgeladle.h. What the host owes them is kept here, and all `unsafe` of the program is in this file and in `system`: each length is that of the
 //! slice beside it, fixed lengths are those of arrays, and slices that Rust lends at once never overlap where one of them may be written.
 #![allow(unsafe_code)]
 
@@ -8,6 +8,8 @@ pub const RECORD: usize = 2960;
 pub const CONNECTION: usize = 32;
 pub const READINGS: usize = 134;
 pub const REPLY: usize = 4096;
+/// The longest value that a block holds.
+pub const MOST_STORED: usize = 384;
 
 /// The longest frame: head, message and value part at their limits. Input of this length is never a proper start of one.
 pub const MOST_FRAME: usize = 9 + 8192 + 1024;
@@ -16,6 +18,9 @@ pub const MOST_FRAME: usize = 9 + 8192 + 1024;
 pub const STORE_BAD: u32 = 2;
 pub const DEVICE_BAD: u32 = 3;
 pub const MORE: u32 = 5;
+
+/// Kinetic's status of a PUT that found no blank block.
+pub const NO_SPACE: u8 = 14;
 
 unsafe extern "C" {
     fn ridgeladle_format(store: *mut u8, store_len: usize, record: *mut u8, key: *const u8, key_len: usize) -> u32;
@@ -55,6 +60,11 @@ pub fn closed(connection: &[u8; CONNECTION]) -> bool {
     connection[9] != 0
 }
 
+/// Whether a request was accepted on a connection: its sequence counted, so it was signed right, and with this connection's number.
+pub fn accepted(connection: &[u8; CONNECTION]) -> bool {
+    connection[10] != 0
+}
+
 /// How many bytes of the input were taken, and how many of `out` written; or the number of a refusal, and nothing is changed.
 pub fn answer(
     store: &mut [u8],
@@ -81,6 +91,12 @@ pub fn answer(
         )
     })?;
     Ok((counts[0] as usize, counts[1] as usize))
+}
+
+/// The status of a reply: the last byte of its message, since it is the last field of the last field, and every status is below 128.
+pub fn status(reply: &[u8; REPLY]) -> u8 {
+    let message = u32::from_be_bytes([reply[1], reply[2], reply[3], reply[4]]) as usize;
+    reply.get(8 + message).copied().unwrap_or_default()
 }
 
 /// Whether a store meets the block rules.

@@ -1,9 +1,10 @@
 //! The file of readings (docs/OPERATING.md, "Readings"), as the 134 bytes that are lent to the box.
 
+use crate::failure::Failure;
 use crate::input;
 use crate::keeper::Keeper;
 use crate::library::READINGS;
-use crate::say;
+use crate::log::{Level, Log};
 use crate::text::bytes_of;
 use std::path::PathBuf;
 use std::time::Duration;
@@ -26,22 +27,30 @@ impl ReadingsFile {
     }
 
     /// Lends what the file says, if it says something new. What is bad is said once, and changes nothing.
-    pub fn look(&mut self, keeper: &Keeper) {
-        let text = input::file(&self.path, MOST_FILE).map_err(|why| why.message);
+    pub fn look(&mut self, keeper: &Keeper, log: &Log) {
+        let text = self.text().map_err(|why| why.message);
         if self.last.as_ref() == Some(&text) {
             return;
         }
         match text.clone().and_then(|text| readings_of(&text).map_err(|why| format!("{}: {why}", self.path.display()))) {
             Ok(readings) => keeper.lend(readings),
-            Err(why) => say(format!("{why}; the readings stay as they were")),
+            Err(why) => log.say(Level::Warning, "a bad file of readings", format!("{why}; the readings stay as they were")),
         }
         self.last = Some(text);
     }
 
-    pub fn follow(mut self, keeper: &Keeper) -> ! {
+    fn text(&self) -> crate::failure::Result<Vec<u8>> {
+        let (text, length) = input::regular_start(&self.path, MOST_FILE)?;
+        if length > MOST_FILE as u64 {
+            return Err(Failure::data(format!("{}: over {MOST_FILE} bytes", self.path.display())));
+        }
+        Ok(text)
+    }
+
+    pub fn follow(mut self, keeper: &Keeper, log: &Log) -> ! {
         loop {
             std::thread::sleep(PAUSE);
-            self.look(keeper);
+            self.look(keeper, log);
         }
     }
 }

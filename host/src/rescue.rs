@@ -2,9 +2,10 @@
 
 use crate::arguments::Arguments;
 use crate::failure::{Failure, Result};
-use crate::image::{Found, Image, Place};
+use crate::image::{Found, Image};
 use crate::key::key_of;
 use crate::library::{self, BLOCK};
+use crate::place::Place;
 use crate::show::key_of_block;
 use crate::text::{print, table};
 use std::ffi::OsString;
@@ -48,34 +49,46 @@ fn new_record(arguments: &Arguments) -> Result<[u8; library::RECORD]> {
 }
 
 fn put_beside(place: &Place, image: &Image) -> Result<String> {
-    let new = place.write_beside(".rescued", image)?;
+    let new = place.write_beside(image, ".rescued")?;
     Ok(format!("The new image is {new} beside it; the old one was not touched.\n"))
 }
 
 fn replace(place: &Place, image: &Image) -> Result<String> {
-    let kept = place.keep_as(".damaged")?;
-    place.write(image).map_err(|why| Failure::file(&place.path, why))?;
+    let kept = place.exchange(image, ".damaged")?;
     Ok(format!("The new image stands in its place; the old one is {kept} beside it.\n"))
 }
 
-/// What was found, what became of each place that was not blank, and how many readings were kept and lost.
+/// What was found, what became of each place that was not blank, and how many readings were kept, lost, and gone without trace.
 fn account(path: &Path, found: &Found, report: &[u8]) -> String {
-    let blocks = found.image.store.chunks(BLOCK).zip(report).enumerate();
-    let used = blocks.filter(|(_, (_, became))| **became != 0);
-    let row = |(place, (block, became)): (usize, (&[u8], &u8))| {
-        vec![place.to_string(), BECAME[usize::from(*became)].to_string(), key_of_block(block)]
+    let used = report.iter().enumerate().filter(|(_, became)| **became != 0);
+    let row = |(place, became): (usize, &u8)| {
+        let words = if never_one(found, place, *became) { "no reading: the box had none here" } else { BECAME[usize::from(*became)] };
+        vec![place.to_string(), words.to_string(), key_of_block(&found.image.store[place * BLOCK..][..BLOCK])]
     };
     let rows: Vec<Vec<String>> = used.map(row).collect();
-    let kept = report.iter().filter(|became| **became == 1).count();
-    let lost = rows.len() - kept;
     let record = if found.record_sound {
         ""
     } else {
         "The device record was made new: identity 1 may do everything, all others are gone; send the table again.\n"
     };
     let damage = format!("{}: {}\n\n", path.display(), found.damage.join("; "));
-    let counts = format!("\n{} kept, {} lost.\n", readings(kept), readings(lost));
-    damage + &table(&["place", "what became of it", "key"], &rows) + &counts + record
+    damage + &table(&["place", "what became of it", "key"], &rows) + &counts(found, report) + record
+}
+
+/// Whether a place that is not sound is past all readings that were written.
+fn never_one(found: &Found, place: usize, became: u8) -> bool {
+    became > 1 && found.used.is_some_and(|used| place >= used)
+}
+
+fn counts(found: &Found, report: &[u8]) -> String {
+    let kept = report.iter().filter(|became| **became == 1).count();
+    let lost = report.iter().enumerate().filter(|(place, became)| **became > 1 && !never_one(found, *place, **became)).count();
+    let named = format!("\n{} kept, {} lost", readings(kept), readings(lost));
+    match found.used.map(|used| used.saturating_sub(kept + lost)) {
+        Some(0) => named + ".\n",
+        Some(gone) => format!("{named}, {} gone without trace.\n", readings(gone)),
+        None => named + ".\nWhether more are gone without trace is not known: the image does not say how many it had.\n",
+    }
 }
 
 fn readings(count: usize) -> String {

@@ -28,22 +28,23 @@ struct Entry {
     scopes: Vec<Vec<u8>>,
 }
 
-/// The bytes of Security that a file's table stands for.
-pub fn security(path: &Path) -> Result<Vec<u8>> {
+/// The bytes of Security that a file's table stands for, and its identities.
+pub fn security(path: &Path) -> Result<(Vec<u8>, Vec<i64>)> {
     let text = input::file(path, MOST_FILE)?;
     let folder = path.parent().unwrap_or(Path::new(""));
     table(&text, folder).map_err(|(line, why)| Failure { message: format!("{}: line {line}: {}", path.display(), why.message), ..why })
 }
 
 /// As above, from the file's text; a failure with the number of its line.
-fn table(text: &[u8], folder: &Path) -> std::result::Result<Vec<u8>, (usize, Failure)> {
+fn table(text: &[u8], folder: &Path) -> std::result::Result<(Vec<u8>, Vec<i64>), (usize, Failure)> {
     let mut entries: Vec<Entry> = Vec::new();
     for (line, number) in text.split(|byte| *byte == b'\n').zip(1..) {
         read_line(&words(line), number, &mut entries, folder).map_err(|why| (number, why))?;
     }
+    let identities = entries.iter().map(|entry| entry.identity).collect();
     let acls = entries.into_iter().map(|entry| (entry.line, acl(entry)));
     let acls = acls.map(|(line, acl)| acl.map_err(|why| (line, why))).collect::<std::result::Result<Vec<_>, _>>()?;
-    Ok(acls.into_iter().fold(Message::default(), |table, acl| table.message(2, acl)).done())
+    Ok((acls.into_iter().fold(Message::default(), |table, acl| table.message(2, acl)).done(), identities))
 }
 
 /// The words of a line up to a comment.
@@ -139,7 +140,7 @@ mod tests {
     use super::*;
 
     fn of(text: &str) -> std::result::Result<Vec<u8>, (usize, String)> {
-        table(text.as_bytes(), Path::new("")).map_err(|(line, why)| (line, why.message))
+        table(text.as_bytes(), Path::new("")).map(|(bytes, _)| bytes).map_err(|(line, why)| (line, why.message))
     }
 
     /// Worked out by hand: document 003's numbers (acl 2; identity 1, key 2, scope 4; offset 1, value 2, permission 3, TlsRequired 4) as tags

@@ -1,4 +1,4 @@
-//! Bytes as text for people, and back: printable ASCII stands for itself, a backslash is `\\`, any other byte `\xNN`.
+//! Bytes as text for people, and back: valid UTF-8 stands for itself but for control characters, a backslash is `\\`, any other byte `\xNN`.
 
 use crate::failure::{Failure, Result};
 use std::io::{ErrorKind, Write};
@@ -13,12 +13,28 @@ pub fn print(text: impl AsRef<[u8]>) -> Result<()> {
 }
 
 pub fn shown(bytes: &[u8]) -> String {
-    let one = |&byte: &u8| match byte {
-        b'\\' => "\\\\".to_string(),
-        b' '..=b'~' => char::from(byte).to_string(),
-        _ => format!("\\x{byte:02x}"),
-    };
-    bytes.iter().map(one).collect()
+    let mut text = String::with_capacity(bytes.len());
+    for chunk in bytes.utf8_chunks() {
+        for character in chunk.valid().chars() {
+            match character {
+                '\\' => text.push_str("\\\\"),
+                _ if hidden(character) => text.push_str(&escaped(character.encode_utf8(&mut [0; 4]).as_bytes())),
+                _ => text.push(character),
+            }
+        }
+        text.push_str(&escaped(chunk.invalid()));
+    }
+    text
+}
+
+fn escaped(bytes: &[u8]) -> String {
+    bytes.iter().map(|byte| format!("\\x{byte:02x}")).collect()
+}
+
+/// Control characters, and those that are not seen but change how the rest of a line is shown: marks of direction, joiners, ends of lines.
+fn hidden(character: char) -> bool {
+    character.is_control()
+        || matches!(character, '\u{ad}' | '\u{61c}' | '\u{200b}'..='\u{200f}' | '\u{2028}'..='\u{202e}' | '\u{2060}'..='\u{206f}' | '\u{feff}')
 }
 
 /// The bytes that a text stands for. Bytes past ASCII stand for themselves, so that UTF-8 may be written as it is.
@@ -82,6 +98,18 @@ mod tests {
         let all: Vec<u8> = (0..=255).collect();
         assert_eq!(bytes_of(shown(&all).as_bytes()).unwrap(), all);
         assert_eq!(shown(b"a\\b\n\xff"), "a\\\\b\\x0a\\xff");
+    }
+
+    #[test]
+    fn utf_8_stands_for_itself_where_it_is_valid_and_seen() {
+        assert_eq!(shown("Öl 31,4 °C 火".as_bytes()), "Öl 31,4 °C 火");
+        assert_eq!(shown(b"\xc3\x96 \xc3"), "Ö \\xc3");
+        for (unseen, escapes) in
+            [("\u{85}", "\\xc2\\x85"), ("\u{202e}", "\\xe2\\x80\\xae"), ("\u{feff}", "\\xef\\xbb\\xbf"), ("\u{7f}", "\\x7f")]
+        {
+            assert_eq!(shown(unseen.as_bytes()), escapes);
+            assert_eq!(bytes_of(escapes.as_bytes()).unwrap(), unseen.as_bytes());
+        }
     }
 
     #[test]

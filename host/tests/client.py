@@ -1,7 +1,12 @@
 """The client commands against a real server: what they do in the box, what they print, and how they end."""
+import csv
+import hashlib
+import io
+import json
+
 import layout
 import model
-from held import hold, same
+from held import PATIENCE, hold, same
 from program import KEY
 from readings import SILENT, followed
 from wire import Client, all_scope
@@ -25,7 +30,8 @@ class Commands:
         """A command to this server, with its key in a file unless it is None."""
         self.count += 1
         options = ["--server", f"127.0.0.1:{self.server.address[1]}", *(["--key-file", key] if key else [])]
-        return self.site.run(command, *options, *words, **given)
+        patience = [] if "--timeout" in words else ["--timeout", str(PATIENCE)]
+        return self.site.run(command, *options, *patience, *words, **given)
 
     def good(self, printed, command, *words, **given):
         """A command that succeeds; the image is the model's after it."""
@@ -53,15 +59,21 @@ class Commands:
         self.box.store = model.store_of(entries, len(self.box.store))
 
 
+def tagged(key, version=b"", value=b""):
+    """The entry that `put` makes where no tag is told: the value's SHA-1."""
+    return model.Entry(key, version, hashlib.sha1(value).digest(), 1, value)
+
+
 def lines(entry, value=True):
-    """What get, next and previous print of an entry."""
-    parts = [("key", layout.text(entry.key)), ("version", layout.text(entry.version)), ("tag", layout.text(entry.tag)),
+    """What get, next and previous print of an entry; of a SHA-1 that the value is the right one, where there is a value."""
+    tag = "right" if value and entry.algorithm == 1 else layout.text(entry.tag)
+    parts = [("key", layout.text(entry.key)), ("version", layout.text(entry.version)), ("tag", tag),
              ("algorithm", entry.algorithm and ALGORITHMS[entry.algorithm - 1]), ("value", value and layout.text(entry.value))]
     return "".join(f"{name} {words}\n" for name, words in parts if words).encode()
 
 
 def puts_and_gets(run):
-    first, odd = model.Entry(b"a", value=b"one"), model.Entry(ODD, b"v 1", b"\xfftag", 5, ALL_BYTES)
+    first, odd = tagged(b"a", value=b"one"), model.Entry(ODD, b"v 1", b"\xfftag", 5, ALL_BYTES)
     success = b"SUCCESS\n"
     run.good(success, "noop")
     run.holds(first)
@@ -69,6 +81,7 @@ def puts_and_gets(run):
     run.holds(first, odd)
     run.good(success, "put", layout.text(ODD), "--value-file", "-", "--new-version", "v 1", "--tag", "\\xfftag", "--algorithm", "CRC64", stdin=ALL_BYTES)
     run.good(lines(first), "get", "a")
+    run.good(lines(first, False), "get", "a", "--metadata-only")
     run.good(lines(odd), "get", layout.text(ODD))
     run.good(lines(odd, False), "get", "--metadata-only", layout.text(ODD))
     run.good(ALL_BYTES, "get", "--raw", layout.text(ODD))
@@ -89,15 +102,19 @@ def changes(run, first, odd):
     second = model.Entry(b"a", b"\x01", b"", 0, newline)
     run.site.write("value", newline)
     run.holds(second, odd)
-    run.good(success, "put", "a", "--value-file", "value", "--new-version=\\x01")
+    run.good(success, "put", "a", "--value-file", "value", "--new-version=\\x01", "--no-tag")
+    run.good(lines(second), "get", "a")
     run.refused(8, "put", "a", "three")
     dashes = model.Entry(b"--key", b"2", b"", 4, b"--value")
     run.holds(second, odd, dashes)
     run.good(success, "put", "--new-version", "2", "--algorithm", "CRC32C", "--", "--key", "--value")
     run.refused(14, "put", "fourth of three", "")
-    run.holds(model.Entry(b"a", b"3"), odd, dashes)
+    run.holds(tagged(b"a", b"3"), odd, dashes)
     run.good(success, "put", "a", "", "--force", "--new-version", "3")
-    run.good(b"key a\nversion 3\n", "get", "a")
+    run.good(b"key a\nversion 3\ntag right\nalgorithm SHA1\n", "get", "a")
+    run.holds(model.Entry(b"a", b"3", b"right"), odd, dashes)
+    run.good(success, "put", "a", "", "--force", "--new-version", "3", "--tag", "right")
+    run.good(b"key a\nversion 3\ntag right\n", "get", "a")
     run.refused(8, "delete", "a")
     run.holds(odd, dashes)
     run.good(success, "delete", "a", "--db-version", "3")
@@ -116,10 +133,14 @@ def others(run):
     run.good(b"", "range", "a", "a", "--start-inclusive")
     run.good(b"a\n", "range", "a", "a", "--start-inclusive", "--end-inclusive")
     run.good(b"--key\n", "range", layout.text(ODD), "a")
+    rows = run.run("range", "", "\\xff", "--csv").out.decode()
+    same("range --csv", list(csv.reader(io.StringIO(rows, newline=""), strict=True)), [["key"], *([key[:-1]] for key in keys)])
+    same("lines of range --csv that end as RFC 4180 has it", rows.count("\r\n"), len(keys) + 1)
+    same("range --json", [json.loads(line) for line in run.run("range", "", "\\xff", "--json").out.splitlines()], [{"key": key[:-1]} for key in keys])
+    run.wrong(64, "range", "", "a", "--csv", "--json")
     run.refused(16, "range", "", "a", "--max-returned", "33")
     run.refused(16, "get", "")
     run.refused(16, "get", "k" * 65)
-    run.refused(16, "put", "k", "w" * 385)
     run.box.record = model.record_of(model.Table(9, TABLE.acls))
     run.good(b"SUCCESS\n", "setup", "--new-cluster-version", "9")
     run.refused(4, "noop")
@@ -138,7 +159,7 @@ def keys_of_identities(run):
     run.refused(2, "noop", key="wrong")
     run.refused(2, "noop", "--identity", "2")
     run.refused(2, "noop", key="two newlines")
-    run.good(b"key a\nvalue one\n", "get", "a", "--identity", "-7", key="reads")
+    run.good(b"key a\ntag right\nalgorithm SHA1\nvalue one\n", "get", "a", "--identity", "-7", key="reads")
     run.refused(3, "put", "a", "x", "--force", "--identity", "-7", key="reads")
     run.refused(3, "get", "b", "--identity=-7", key="reads")
     run.good(b"SUCCESS\n", "noop", key=None, environment={"RIDGELADLE_KEY": KEY.decode()})
@@ -162,7 +183,8 @@ def wrong_words(run):
     for command, words in WORDS.items():
         if words:
             run.wrong(64, command, *words[1:])
-    for command in "put a x --algorithm MD5", "put a x --value-file value", "put a --new-version 1", "get \\n", "get \\x4", "put a \\", "put a x --tag \\xg0", \
+    for command in "put a x --algorithm MD5", "put a x --no-tag --tag t", "put a x --no-tag --algorithm SHA1", \
+            "put a x --value-file value", "put a --new-version 1", "get \\n", "get \\x4", "put a \\", "put a x --tag \\xg0", \
             "range a b --max-returned many", "setup --new-cluster-version 1.5", "noop --identity 9223372036854775808", "noop --timeout 0", "get a --force":
         run.wrong(64, *command.split(" "))
     run.wrong(74, "put", "a", "--value-file", "missing")
@@ -171,12 +193,26 @@ def wrong_words(run):
         same(f"ridgeladle {words}: exit code, with {done.err!r}", done.code, 64)
 
 
+def long_values(run):
+    """A value of 384 bytes is taken, one more is refused by the client, which names the limit."""
+    entries = model.entries_of(run.box.store)
+    run.site.write("long", b"w" * 385)
+    for words in ["w" * 385], ["--value-file", "long"], ["--value-file", "-"]:
+        said = run.wrong(65, "put", "k", *words, "--force", stdin=b"w" * 385)
+        hold(f"384 is not named: {said!r}", "384" in said and "385" in said)
+    run.holds(*(tagged(b"a", value=b"w" * 384) if entry.key == b"a" else entry for entry in entries))
+    run.good(b"SUCCESS\n", "put", "a", "w" * 384, "--force")
+    run.holds(*entries)
+    run.good(b"SUCCESS\n", "put", "a", "one", "--force")
+
+
 def client(site):
     """Every client command: what it prints and how it ends, as docs/OPERATING.md says, and the image after it."""
     run = Commands(site, model.Box(bytes(3 * model.BLOCK), model.record_of(TABLE)))
     site.write("table", b"identity 1\nkey x\nscope read\n")
     changes(run, *puts_and_gets(run))
     others(run)
+    long_values(run)
     keys_of_identities(run)
     wrong_words(run)
     with Client(run.server.address, run.box) as end:

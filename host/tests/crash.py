@@ -8,7 +8,7 @@ import time
 
 import layout
 import model
-from held import Failed, Lost, hold, same
+from held import Failed, Lost, hold, same, soon
 from program import KEY
 from wire import NO_READINGS, Client, all_scope, code_of, command_of, pair, setup
 
@@ -201,8 +201,8 @@ def leftover(site):
     return "4 kinds of FILE.new from before: image and mode after a change"
 
 
-def killed(site, path, state):
-    """Starts the server, puts load on it, and kills it at a random moment."""
+def killed(site, path, state, changes):
+    """Starts the server, puts load on it, and kills it at a random moment, after so many changes at least."""
     server, cut = site.serve(path), threading.Event()
     same("used blocks", server.used, sum(len(model.entries_of(store)) for store in state.stores))
     given = [(state, server, cut, site.random.random()) for _ in range(WRITERS + 2)]
@@ -211,6 +211,8 @@ def killed(site, path, state):
     loads = [*writers, reader, Setter([*writers, reader], *given[-1])]
     for load in loads:
         load.start()
+    enough = sum(state.acknowledged) + changes
+    soon("changes under load", lambda: sum(state.acknowledged) >= enough or any(load.failure for load in loads))
     time.sleep(site.random.choice((.05, .3, .6)) * site.random.random() + .01)
     cut.set()
     server.end(site.random.choice(SIGNALS))
@@ -226,8 +228,8 @@ def crash(site):
     server goes on with it, whatever FILE.new was left."""
     path, _ = site.format()
     state, kills, older = State(), 300 if site.thorough else 15, b""
-    for _ in range(kills):
-        writers, reader = killed(site, path, state)
+    for n in range(kills):
+        writers, reader = killed(site, path, state, n % 2 * 3)
         box = found(state, path, writers, reader)
         leave(site, path, older)
         older = path.read_bytes()
@@ -237,7 +239,7 @@ def crash(site):
         same("code of a PUT after all", client.put(b"last", b"one more"), 1)
     layout.same_image("after all", path, box)
     changes = sum(state.acknowledged)
-    hold("the load changed next to nothing", changes > kills)
+    hold("the load changed next to nothing", changes >= kills // 2 * 3)
     return f"{kills} kills: {changes} acknowledged changes and {state.sure} of the cluster version were all there, each image whole"
 
 

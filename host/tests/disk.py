@@ -1,10 +1,11 @@
 """A disk that refuses: what it refused was never so, and the server goes on with what is on disk."""
 import os
+import signal
 import threading
 
 import layout
 import model
-from held import Failed, Lost, hold, same
+from held import PATIENCE, Failed, Lost, hold, same
 from messages import table_tree
 from program import within
 from wire import Client, all_scope, code_of, pair, setup, value_of
@@ -131,8 +132,8 @@ def disk_unread(site):
     with Blocked(site):
         for watcher in watchers:
             watcher.start()
-        go_on = within(10 if site.thorough else 1.5)
-        while go_on():
+        go_on, in_time = within(10 if site.thorough else 1.5), within(PATIENCE)
+        while go_on() or in_time() and sum(watcher.count for watcher in watchers) <= tries and not any(watcher.failure for watcher in watchers):
             unanswered(server, box, "PUT", pair(b"k", b"2", force=1), b"not on disk")
             tries += 1
         until.set()
@@ -146,4 +147,22 @@ def disk_unread(site):
     return f"{tries} changes refused while four connections read {reads} times: all saw the old value"
 
 
-TESTS = [disk, disk_unread]
+def disk_limit(site):
+    """A limit on the size of files, below the image's: changes are refused like any that the disk refuses, and the server goes on."""
+    path, box = site.format()
+    server = site.serve(path)
+    with Client(server.address, box) as client:
+        same("code of the first PUT", client.put(b"k", b"old", b"1"), 1)
+    server.end(signal.SIGTERM)
+    server = site.serve(path, under=["sh", "-c", 'ulimit -f 20; exec "$@"', "sh"])
+    for kind, (body, value) in CHANGES.items():
+        unanswered(server, box, kind.split()[0], body, value)
+        hold("the server ended", server.running())
+        hold("half an image was left", not os.path.exists(f"{path}.new"))
+    as_before(server, box, "changes over the limit")
+    server.end(signal.SIGTERM)
+    layout.same_image("after changes over the limit", path, box)
+    return f"{len(CHANGES)} changes over a limit on files: refused, and the server goes on"
+
+
+TESTS = [disk, disk_unread, disk_limit]

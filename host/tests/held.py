@@ -1,6 +1,8 @@
 """What a test holds, with an account of what was there instead."""
 import time
 
+PATIENCE = 300  # seconds after which waiting is given up, for whatever: so long that a slow machine is not a fault
+
 
 class Failed(Exception):
     """Something is not as it must be."""
@@ -32,12 +34,12 @@ def same(what, got, wanted):
     raise Failed(f"{what}{where}\n  got    {shortly(got)}\n  wanted {shortly(wanted)}")
 
 
-def soon(what, true, seconds=5):
-    """What must become true within some seconds; gives what it became."""
-    end = time.monotonic() + seconds
+def soon(what, true):
+    """What must become true; gives what it became."""
+    end = time.monotonic() + PATIENCE
     while time.monotonic() < end:
         is_so = true()
         if is_so:
             return is_so
         time.sleep(.02)
-    raise Failed(f"not within {seconds} seconds: {what}")
+    raise Failed(f"not within {PATIENCE} seconds: {what}")

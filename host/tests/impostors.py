@@ -1,16 +1,15 @@
 """The client commands against servers that are none: nobody there, rubbish, replies that are cut, late, or not what a box of that key would send."""
 import socket
 import threading
-import time
 
 import layout
 import model
-from held import hold, same
+from held import PATIENCE, hold, same
 from program import KEY
 from wire import NO_READINGS
 
-WAIT = 20   # seconds after which an impostor gives up
-PAUSE = .1  # seconds before each byte that is sent slowly
+WAIT = 2 * PATIENCE  # seconds after which an impostor gives up: a client that waits for it comes too late
+PAUSE = .1           # seconds before each byte that is sent slowly
 
 
 class Last(bytes):
@@ -110,15 +109,19 @@ WAYS = {"another key at once": (65, lambda count, reply: resigned(reply, b"anoth
         "a closing reply, 20": (20, second(lambda reply: closing(20))), "a closing reply, 2": (2, second(lambda reply: closing(2)))}
 
 
+# Those for which the client must not wait long.
+SLOW = {"silent", "silent before the reply", "a byte now and then"}
+
+
 def impostors(site):
     """Servers that are no box of that key: the client ends with the code of docs/OPERATING.md, in time, and prints nothing on standard output."""
     for way, (code, spoil) in WAYS.items():
-        impostor, began = Impostor(spoil), time.monotonic()
-        done = site.run("noop", "--server", f"127.0.0.1:{impostor.port}", "--key-file", "key", "--timeout", "1")
+        impostor = Impostor(spoil)
+        seconds = 1 if way in SLOW else PATIENCE
+        done = site.run("noop", "--server", f"127.0.0.1:{impostor.port}", "--key-file", "key", "--timeout", str(seconds))
         impostor.end()
         same(f"{way}: exit code and output, with {done.err!r}", done[:2], (code, b"SUCCESS\n" if code == 0 else b""))
         hold(f"{way}: a message on standard error: {done.err!r}", (code == 0) == (done.err == ""))
-        hold(f"{way}: {time.monotonic() - began:.1f} seconds", time.monotonic() - began < 4)
     done = site.run("noop", "--server", f"127.0.0.1:{free_port()}", "--key-file", "key", "--timeout", "1")
     same(f"nobody there: exit code and output, with {done.err!r}", done[:2], (69, b""))
     return f"{len(WAYS) + 1} servers that are none: exit codes and output"

@@ -12,25 +12,26 @@ import threading
 import time
 
 import layout
-from held import Failed, hold, same
+from held import PATIENCE, Failed, hold, same
 
 TOP = pathlib.Path(__file__).resolve().parent.parent.parent
 PROGRAM = TOP / "target" / "host" / "release" / "ridgeladle"
 KEY = b"the office's key"
 LOOPBACK = "127.0.0.1"
-PATIENCE = 10  # seconds for a server to be ready, and for a command to end
 
 Done = collections.namedtuple("Done", "code out err")
 
 
 class Server:
-    """A server process. `address` is the plain listener's, `protected` the other's where there is one."""
+    """A server process, started by the words `under` where there are any. `address` is the plain listener's, `protected` the other's where there is one. If not
+    said otherwise, clients have long for their first requests."""
 
-    def __init__(self, site, image, words):
+    def __init__(self, site, image, words, under=(), patient=True):
         self.image = pathlib.Path(image)
+        words = [*words, *(["--first-request", str(PATIENCE)] if patient else [])]
         self.log = site.folder / f"server{len(site.servers)}.err"
         with open(self.log, "wb") as errors:
-            self.process = subprocess.Popen([site.program, "serve", "--image", image, "--listen", LOOPBACK + ":0", *words], stdin=subprocess.DEVNULL,
+            self.process = subprocess.Popen([*under, site.program, "serve", "--image", image, "--listen", LOOPBACK + ":0", *words], stdin=subprocess.DEVNULL,
                                             stdout=subprocess.PIPE, stderr=errors, cwd=site.folder)
         site.servers.append(self)
         lines = self.first_lines(2 if "--protected-listen" in words else 1)
@@ -70,10 +71,14 @@ class Server:
         return self.process.poll() is None
 
     def end(self, how=signal.SIGKILL):
-        """Ends it by a signal; it must have run until then, and have said nothing more on standard output."""
+        """Ends it by a signal; it must have run until then, and have said nothing more on standard output. SIGINT and SIGTERM it handles itself."""
         hold(f"the server had ended with {self.process.poll()}", self.running())
         self.process.send_signal(how)
-        self.process.wait(PATIENCE)
+        self.ended(-how if how == signal.SIGKILL else 0)
+
+    def ended(self, code):
+        """Waits for its end."""
+        same("exit code of the server", self.process.wait(PATIENCE), code)
         same("what the server said on standard output when it was ready", self.process.stdout.read(), b"")
 
     def close(self):
@@ -112,8 +117,8 @@ class Site:
         layout.write(self.path(name), box)
         return self.path(name)
 
-    def serve(self, image, *words):
-        return Server(self, image, words)
+    def serve(self, image, *words, **given):
+        return Server(self, image, words, **given)
 
     def run(self, *words, stdin=b"", environment=None, seconds=PATIENCE):
         """Runs a command of the program to its end."""

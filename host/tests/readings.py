@@ -11,7 +11,6 @@ from messages import log_tree
 from wire import NO_READINGS, Client
 
 SILENT = 0x7fc00000
-SOON = 3  # seconds in which a change must be seen; docs/OPERATING.md says one
 
 
 def bits(text):
@@ -50,7 +49,7 @@ def shows(client, wanted):
 
 
 def followed(client, what, wanted):
-    soon(f"GETLOG shows {what}", lambda: shows(client, wanted), SOON)
+    soon(f"GETLOG shows {what}", lambda: shows(client, wanted))
 
 
 def readings_file(site):
@@ -67,7 +66,7 @@ def readings_file(site):
         for data, line in BAD:
             before = len(server.errors())
             file.write_bytes(data)
-            said = soon(f"{data!r} is named", lambda before=before: server.errors()[before:].endswith("\n") and server.errors()[before:], SOON)
+            said = soon(f"{data!r} is named", lambda before=before: server.errors()[before:].endswith("\n") and server.errors()[before:])
             hold(f"line {line} of {data!r} is not named: {said!r}", re.search(rf"line {line}\b|:{line}\b", said))
             hold(f"readings of {data!r} are shown", shows(client, LAST_GOOD[1]))
         renamed(site, file, client)
@@ -102,7 +101,7 @@ def readings_start(site):
         server = site.serve(path, "--readings", name)
         with Client(server.address, box) as client:
             hold(f"readings of a {name} file", shows(client, NO_READINGS))
-            said = soon(f"a {name} file is named", server.errors, SOON)
+            said = soon(f"a {name} file is named", server.errors)
             hold(f"the {name} file is not named: {said!r}", name in said)
             site.write(name, LAST_GOOD[0])
             followed(client, f"what was {name}", LAST_GOOD[1])
@@ -110,4 +109,19 @@ def readings_start(site):
     return "a missing and a bad file at the start: none shown, said on standard error, and followed from then on"
 
 
-TESTS = [readings_file, readings_start]
+def readings_pipe(site):
+    """A pipe for a file of readings does not stop the start; it is named, and a file in its place is followed."""
+    path, box = site.format(blocks=2)
+    os.mkfifo(site.path("pipe"))
+    server = site.serve(path, "--readings", "pipe")
+    with Client(server.address, box) as client:
+        hold("readings of a pipe", shows(client, NO_READINGS))
+        said = soon("the pipe is named", server.errors)
+        hold(f"the pipe is not named: {said!r}", "pipe is not a file" in said)
+        site.write("next", LAST_GOOD[0])
+        os.replace(site.path("next"), site.path("pipe"))
+        followed(client, "a file where a pipe was", LAST_GOOD[1])
+    return "a pipe at the start: none shown, said on standard error, and a file in its place followed"
+
+
+TESTS = [readings_file, readings_start, readings_pipe]

@@ -4,7 +4,7 @@ import re
 import subprocess
 
 import layout
-from held import hold, same, soon
+from held import PATIENCE, hold, same, soon
 from program import TOP
 from wire import Client, pair, setup
 
@@ -26,7 +26,7 @@ class Traced:
 
     def __exit__(self, *_):
         self.process.terminate()
-        self.process.wait(10)
+        self.process.wait(PATIENCE)
         self.process.stderr.close()
 
     def lines(self):

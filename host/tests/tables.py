@@ -77,7 +77,7 @@ def security_file(site):
         hold(f"line {line} is not named of {text!r}: {said!r}", re.search(rf"\bline {line}\b|\btable:{line}\b", said))
     for text in FORBIDDEN:
         write(text)
-        run.refused(16, "security", *words)
+        run.refused(16, "security", *words, "--without-me")
     for text in COUNTED:
         write(text)
         done = run.run("security", *words)
@@ -89,4 +89,19 @@ def security_file(site):
     return f"{len(GOOD)} good tables, {len(BAD)} that can't be read, {len(FORBIDDEN) + len(COUNTED)} that are refused: exit codes, lines named, and the record"
 
 
-TESTS = [security_file]
+def security_sender(site):
+    """A table that lacks its sender is not sent, unless it is told to be: --without-me."""
+    both = model.Acl(1, KEY, (all_scope(),)), model.Acl(2, KEY, (all_scope(),))
+    run = Commands(site, model.Box(bytes(model.BLOCK), model.record_of(model.Table(0, both))))
+    site.write("table", b"identity 2\nkey-file key\nscope security\n")
+    for words, sender in ([], "1"), (["--identity", "3"], "3"), (["--identity", "-2"], "-2"):
+        said = run.wrong(65, "security", "table", *words)
+        hold(f"identity {sender} and --without-me are not named: {said!r}", f"identity {sender}," in said and "--without-me" in said)
+    run.box.record = model.record_of(model.Table(0, (model.Acl(2, KEY, (model.Scope(frozenset({SECURITY})),)),)))
+    run.good(b"SUCCESS\n", "security", "table", "--without-me")
+    run.refused(2, "noop")
+    run.good(b"SUCCESS\n", "security", "table", "--identity", "2")
+    return f"{run.count} commands: refused before the box, and sent where it is meant"
+
+
+TESTS = [security_file, security_sender]

@@ -3,19 +3,18 @@ import socket
 
 import messages
 import model
-from held import Failed, Lost, hold, same, shortly
+from held import PATIENCE, Failed, Lost, hold, same, shortly
 from messages import tree
 from program import KEY
 
 NO_READINGS = bytes(model.READINGS)
-PATIENCE = 10  # seconds for a reply
 
 
 class Peer:
     """A connection as bytes. One that is reset counts as closed, and `reset` says so."""
 
-    def __init__(self, address, patience=PATIENCE):
-        self.socket = socket.create_connection(address, patience)
+    def __init__(self, address):
+        self.socket = socket.create_connection(address, PATIENCE)
         self.socket.setsockopt(socket.IPPROTO_TCP, socket.TCP_NODELAY, 1)
         self.reset = False
 
