@@ -41,6 +41,7 @@ pub mod WorkedLaws
 pub mod FrameStartLaws
 pub mod CallRefusalLaws
 pub mod HmacFailureLaws
+pub mod JudgedReplyLaws
 pub mod Passes
 pub mod AcceptedLaws
 pub mod PutLaws
