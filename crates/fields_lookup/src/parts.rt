@@ -35,14 +35,14 @@ pub fn open_at(s: &[u8], p: Part, kind: Kind) -> Slots
 }
 
 // The number of a level under a singular field number.
-pub fn num_of(t: Slots, n: usize) -> Num
+pub fn num_of(t: Slots, n: u64) -> Num
     requires { ⌜ (n < 16) × Sized t ⌝ }
     ensures { λ r. ⌜ NumIs t n r ⌝ }
 {
-    if marked(t.has, n as u64) {
+    if marked(t.has, n) {
         return Num {
             has: true,
-            value: t.value[n],
+            value: t.value[n as usize],
         };
     }
     Num {
@@ -52,16 +52,16 @@ pub fn num_of(t: Slots, n: usize) -> Num
 }
 
 // The part of the whole message under a singular field number of the level in its part p.
-pub fn part_of(s: &[u8], p: Part, t: Slots, n: usize) -> Part
+pub fn part_of(s: &[u8], p: Part, t: Slots, n: u64) -> Part
     requires { ⌜ (n < 16) × Sized t × Inside (now s) p × SlotInside (bytesAt (now s) p) t n ⌝ }
     ensures { λ r. ⌜ PartIs (now (s .entry)) p t n r ⌝ }
 {
-    if marked(t.has, n as u64) {
-        let start = t.value[n] as usize;
+    if marked(t.has, n) {
+        let start = t.value[n as usize] as usize;
         return Part {
             has: true,
             start: p.start + start,
-            len: t.len[n],
+            len: t.len[n as usize],
         };
     }
     Part {

@@ -7,6 +7,7 @@ use mathlib.Core.Option.{Option, some}
 use mathlib.Core.Bool.{Bool, true, false, not, cond}
 use lib.Dec.{eqb}
 use Rattle.fields_wire.specs.Wire.{vint, v64, vlen, v32, Field, field, fieldsOf}
+use Rattle.fields_schema.specs.FieldNumbers.{Body-security, ACL-identity, ACL-key, ACL-hmacAlgorithm, Scope-offset, Scope-value, Scope-TlsRequired}
 use Rattle.fields_schema.specs.Rules.{Table, end, row}
 use Rattle.fields_schema.specs.Tree.{guard, among, Tree, done, int, raw, fix, sub, join, consIf}
 use Rattle.fields_schema.specs.declared.Kind.{Kind}
@@ -21,21 +22,17 @@ onceNumbers Message = []
 onceNumbers HmacAuth = []
 onceNumbers Command = []
 onceNumbers Header = []
--- security
-onceNumbers Body = 7 ∷ []
+onceNumbers Body = Body-security ∷ []
 onceNumbers KeyValue = []
 onceNumbers Range = []
 onceNumbers Setup = []
 onceNumbers GetLog = []
 -- its acls are repeated
 onceNumbers Security = []
--- identity, key, hmacAlgorithm
-onceNumbers Acl = 1 ∷ 2 ∷ 3 ∷ []
--- offset, value, TlsRequired
-onceNumbers Scope = 1 ∷ 2 ∷ 4 ∷ []
+onceNumbers Acl = ACL-identity ∷ ACL-key ∷ ACL-hmacAlgorithm ∷ []
+onceNumbers Scope = Scope-offset ∷ Scope-value ∷ Scope-TlsRequired ∷ []
 onceNumbers ReplyCommand = []
--- security
-onceNumbers ReplyBody = 7 ∷ []
+onceNumbers ReplyBody = Body-security ∷ []
 onceNumbers ReplyRange = []
 onceNumbers ReplyGetLog = []
 onceNumbers Utilization = []

@@ -1,3 +1,4 @@
+pub mod FieldNumbers
 pub mod Rules
 pub mod Tree
 pub mod PutIn

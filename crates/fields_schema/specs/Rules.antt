@@ -1,9 +1,22 @@
 -- Document 01, "Frame and fields", "Listed": for each kind of message, what each field number means; and "Replies", for reading replies.
--- GetLog by document 02, CR 1, its numbers by document 003.
+-- GetLog by document 02, CR 1. The numbers by document 003 (FieldNumbers).
 use Prim.Native.Nat.{ℕ}
 use mathlib.Core.List.{List, [], _∷_}
 use mathlib.Core.Bool.{Bool, true, false, cond}
 use lib.Dec.{eqb}
+use Rattle.fields_schema.specs.FieldNumbers.{Message-authType, Message-hmacAuth, Message-pinAuth, Message-commandBytes, HMACauth-identity, HMACauth-hmac}
+use Rattle.fields_schema.specs.FieldNumbers.{Command-header, Command-body, Command-status, Header-clusterVersion, Header-connectionID, Header-sequence}
+use Rattle.fields_schema.specs.FieldNumbers.{Header-ackSequence, Header-messageType, Header-timeout, Header-earlyExit, Header-priority, Header-TimeQuanta}
+use Rattle.fields_schema.specs.FieldNumbers.{Header-batchID, Body-keyValue, Body-range, Body-setup, Body-p2pOperation, Body-getLog, Body-security}
+use Rattle.fields_schema.specs.FieldNumbers.{Body-pinOp, Body-batch, Body-power, KeyValue-newVersion, KeyValue-key, KeyValue-dbVersion, KeyValue-tag}
+use Rattle.fields_schema.specs.FieldNumbers.{KeyValue-algorithm, KeyValue-metadataOnly, KeyValue-force, KeyValue-synchronization, Range-startKey}
+use Rattle.fields_schema.specs.FieldNumbers.{Range-endKey, Range-startKeyInclusive, Range-endKeyInclusive, Range-maxReturned, Range-reverse, Range-keys}
+use Rattle.fields_schema.specs.FieldNumbers.{Setup-newClusterVersion, Setup-firmwareDownload, GetLog-types, GetLog-utilizations, GetLog-temperatures}
+use Rattle.fields_schema.specs.FieldNumbers.{GetLog-capacity, GetLog-limits, Utilization-name, Utilization-value, Temperature-name, Temperature-current}
+use Rattle.fields_schema.specs.FieldNumbers.{Capacity-nominalCapacityInBytes, Capacity-portionFull, Limits-maxKeySize, Limits-maxValueSize}
+use Rattle.fields_schema.specs.FieldNumbers.{Limits-maxVersionSize, Limits-maxTagSize, Limits-maxMessageSize, Limits-maxKeyRangeCount}
+use Rattle.fields_schema.specs.FieldNumbers.{Limits-maxIdentityCount, Security-acl, ACL-identity, ACL-key, ACL-hmacAlgorithm, ACL-scope, Scope-offset}
+use Rattle.fields_schema.specs.FieldNumbers.{Scope-value, Scope-permission, Scope-TlsRequired, Status-code}
 use Rattle.fields_schema.specs.declared.Kind.{Kind}
 use Rattle.fields_schema.specs.declared.Kind.the-variants.{Message, HmacAuth, Command, Header, Body, KeyValue, Range, Setup, GetLog, Security, Acl, Scope, ReplyCommand, ReplyBody, ReplyRange, ReplyGetLog, Utilization, Temperature, Capacity, Limits, Status}
 use Rattle.fields_schema.specs.declared.Names.{Names}
@@ -40,64 +53,57 @@ repeated n f t = row n (Repeated f) t
 abbrev refused : ℕ → Table → Table
 refused n t = row n Refused t
 
--- Command: 1 m header, 2 m body, 3 m status (not looked into)
+-- the document's m is Nested, s Int64 (of maxReturned Int32), e Int32 or Named, f Flag, b Bytes, r refused; a status is not looked into
 abbrev command : Table
-command = single 1 (Nested Header) (single 2 (Nested Body) (single 3 Opaque end))
+command = single Command-header (Nested Header) (single Command-body (Nested Body) (single Command-status Opaque end))
 
--- Body: 1 m keyValue, 2 m range, 3 m setup, 6 m getLog, 7 m security; 4, 8, 9, 10 r
 abbrev body : Table
 body =
-    single 1 (Nested KeyValue) (single 2 (Nested Range) (single 3 (Nested Setup) (refused 4 (single 6 (Nested GetLog) (once 7 (Nested Security)
-    (refused 8 (refused 9 (refused 10 end))))))))
+    single Body-keyValue (Nested KeyValue) (single Body-range (Nested Range) (single Body-setup (Nested Setup) (refused Body-p2pOperation
+    (single Body-getLog (Nested GetLog) (once Body-security (Nested Security) (refused Body-pinOp (refused Body-batch (refused Body-power end))))))))
 
--- Range: 1 b startKey, 2 b endKey, 3 f and 4 f inclusive flags, 5 s maxReturned (int32), 6 f reverse; 8 r
 abbrev range : Table
-range = single 1 Bytes (single 2 Bytes (single 3 Flag (single 4 Flag (single 5 Int32 (single 6 Flag (refused 8 end))))))
+range =
+    single Range-startKey Bytes (single Range-endKey Bytes (single Range-startKeyInclusive Flag (single Range-endKeyInclusive Flag
+    (single Range-maxReturned Int32 (single Range-reverse Flag (refused Range-keys end))))))
 
 abbrev pub tableOf : Kind → Table
--- Message: 4 e authType, 5 m HMACauth, 6 bytes not looked into, 7 b commandBytes
-tableOf Message = single 4 Int32 (single 5 (Nested HmacAuth) (single 6 Opaque (single 7 Bytes end)))
--- HMACauth: 1 s identity, 2 b hmac
-tableOf HmacAuth = single 1 Int64 (single 2 Bytes end)
+tableOf Message =
+    single Message-authType Int32 (single Message-hmacAuth (Nested HmacAuth) (single Message-pinAuth Opaque (single Message-commandBytes Bytes end)))
+tableOf HmacAuth = single HMACauth-identity Int64 (single HMACauth-hmac Bytes end)
 tableOf Command = command
--- Header: 1 s clusterVersion, 3 s connectionID, 4 s sequence, 6 s ackSequence, 7 e messageType, 9 s timeout, 10 f earlyExit, 12 e priority,
--- 13 s TimeQuanta, 14 r
 tableOf Header =
-    single 1 Int64 (single 3 Int64 (single 4 Int64 (single 6 Int64 (single 7 Int32 (single 9 Int64 (single 10 Flag
-    (single 12 (Named Priority) (single 13 Int64 (refused 14 end)))))))))
+    single Header-clusterVersion Int64 (single Header-connectionID Int64 (single Header-sequence Int64 (single Header-ackSequence Int64
+    (single Header-messageType Int32 (single Header-timeout Int64 (single Header-earlyExit Flag (single Header-priority (Named Priority)
+    (single Header-TimeQuanta Int64 (refused Header-batchID end)))))))))
 tableOf Body = body
--- KeyValue: 2 b newVersion, 3 b key, 4 b dbVersion, 5 b tag, 6 e algorithm, 7 f metadataOnly, 8 f force, 9 e synchronization
 tableOf KeyValue =
-    single 2 Bytes (single 3 Bytes (single 4 Bytes (single 5 Bytes (single 6 (Named Algorithm) (single 7 Flag (single 8 Flag
-    (single 9 (Named Synchronization) end)))))))
+    single KeyValue-newVersion Bytes (single KeyValue-key Bytes (single KeyValue-dbVersion Bytes (single KeyValue-tag Bytes
+    (single KeyValue-algorithm (Named Algorithm) (single KeyValue-metadataOnly Flag (single KeyValue-force Flag
+    (single KeyValue-synchronization (Named Synchronization) end)))))))
 tableOf Range = range
--- Setup: 1 s newClusterVersion, 5 r
-tableOf Setup = single 1 Int64 (refused 5 end)
--- "a request's GetLog lists field 1 only": 1 e types (one per field)
-tableOf GetLog = repeated 1 (Named LogType) end
--- Security: 2 m acl
-tableOf Security = repeated 2 (Nested Acl) end
--- ACL: 1 s identity, 2 b key, 3 e hmacAlgorithm, 4 m scope
-tableOf Acl = once 1 Int64 (once 2 Bytes (once 3 Int32 (repeated 4 (Nested Scope) end)))
--- Scope: 1 s offset, 2 b value, 3 e permission (one per field), 4 f TlsRequired
-tableOf Scope = once 1 Int64 (once 2 Bytes (repeated 3 Int32 (once 4 Flag end)))
+tableOf Setup = single Setup-newClusterVersion Int64 (refused Setup-firmwareDownload end)
+-- "a request's GetLog lists field 1 only", types, "one per field"
+tableOf GetLog = repeated GetLog-types (Named LogType) end
+tableOf Security = repeated Security-acl (Nested Acl) end
+tableOf Acl = once ACL-identity Int64 (once ACL-key Bytes (once ACL-hmacAlgorithm Int32 (repeated ACL-scope (Nested Scope) end)))
+-- permission: "one per field"
+tableOf Scope = once Scope-offset Int64 (once Scope-value Bytes (repeated Scope-permission Int32 (once Scope-TlsRequired Flag end)))
 -- for reading replies, Range 8 is a repeated b, Status 1 is e code, and of GetLog "the fields of document 003 that a built reply sends are listed";
 -- all else as listed above
-tableOf ReplyCommand = single 2 (Nested ReplyBody) (single 3 (Nested Status) command)
-tableOf ReplyBody = single 2 (Nested ReplyRange) (single 6 (Nested ReplyGetLog) body)
-tableOf ReplyRange = repeated 8 Bytes range
--- GetLog: 2 m utilizations, 3 m temperatures, 4 m capacity, 8 m limits
-tableOf ReplyGetLog = repeated 2 (Nested Utilization) (repeated 3 (Nested Temperature) (single 4 (Nested Capacity) (single 8 (Nested Limits) end)))
--- Utilization: 1 b name, 2 float value
-tableOf Utilization = single 1 Bytes (single 2 Float end)
--- Temperature: 1 b name, 2 float current
-tableOf Temperature = single 1 Bytes (single 2 Float end)
--- Capacity: 4 nominalCapacityInBytes, 5 float portionFull
-tableOf Capacity = single 4 Int64 (single 5 Float end)
--- Limits: 1 maxKeySize, 2 maxValueSize, 3 maxVersionSize, 4 maxTagSize, 8 maxMessageSize, 9 maxKeyRangeCount, 10 maxIdentityCount
+tableOf ReplyCommand = single Command-body (Nested ReplyBody) (single Command-status (Nested Status) command)
+tableOf ReplyBody = single Body-range (Nested ReplyRange) (single Body-getLog (Nested ReplyGetLog) body)
+tableOf ReplyRange = repeated Range-keys Bytes range
+tableOf ReplyGetLog =
+    repeated GetLog-utilizations (Nested Utilization) (repeated GetLog-temperatures (Nested Temperature)
+    (single GetLog-capacity (Nested Capacity) (single GetLog-limits (Nested Limits) end)))
+tableOf Utilization = single Utilization-name Bytes (single Utilization-value Float end)
+tableOf Temperature = single Temperature-name Bytes (single Temperature-current Float end)
+tableOf Capacity = single Capacity-nominalCapacityInBytes Int64 (single Capacity-portionFull Float end)
 tableOf Limits =
-    single 1 Int64 (single 2 Int64 (single 3 Int64 (single 4 Int64 (single 8 Int64 (single 9 Int64 (single 10 Int64 end))))))
-tableOf Status = single 1 (Named StatusCode) end
+    single Limits-maxKeySize Int64 (single Limits-maxValueSize Int64 (single Limits-maxVersionSize Int64 (single Limits-maxTagSize Int64
+    (single Limits-maxMessageSize Int64 (single Limits-maxKeyRangeCount Int64 (single Limits-maxIdentityCount Int64 end))))))
+tableOf Status = single Status-code (Named StatusCode) end
 
 abbrev pub look : ℕ → Table → Rule
 look n end = Unlisted

@@ -1,4 +1,7 @@
-// The kinds of message, and how each listed field of a kind is read. The kinds from ReplyCommand on are for reading replies.
+// The kinds of message, and how each listed field of a kind is read.
+pub mod field_number;
+
+// The kinds from ReplyCommand on are for reading replies.
 pub enum Kind {
     Message,
     HmacAuth,

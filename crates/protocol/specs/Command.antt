@@ -6,6 +6,12 @@ use Prim.Native.Nat.{ℕ}
 use lib.Dec.{eqb}
 use Rattle.base_definitions.specs.Options.{orElse}
 use Rattle.base_definitions.specs.Lists.{mapL}
+use Rattle.fields_schema.specs.FieldNumbers.{Command-header, Command-body, Header-clusterVersion, Header-connectionID, Header-sequence, Header-messageType}
+use Rattle.fields_schema.specs.FieldNumbers.{Body-keyValue, Body-range, Body-setup, Body-getLog, Body-security, KeyValue-newVersion, KeyValue-key}
+use Rattle.fields_schema.specs.FieldNumbers.{KeyValue-dbVersion, KeyValue-tag, KeyValue-algorithm, KeyValue-metadataOnly, KeyValue-force, Range-startKey}
+use Rattle.fields_schema.specs.FieldNumbers.{Range-endKey, Range-startKeyInclusive, Range-endKeyInclusive, Range-maxReturned, Range-reverse}
+use Rattle.fields_schema.specs.FieldNumbers.{Setup-newClusterVersion, GetLog-types, Security-acl, ACL-identity, ACL-key, ACL-hmacAlgorithm, ACL-scope}
+use Rattle.fields_schema.specs.FieldNumbers.{Scope-offset, Scope-value, Scope-permission, Scope-TlsRequired}
 use Rattle.fields_schema.specs.Tree.{Tree, mapO, intAt, rawAt, subAt, intsAt, subsAt}
 
 -- a flag
@@ -64,45 +70,63 @@ pub record Command : Type 0 where
   pub body : Body
 
 abbrev pub headerOf : Tree → Header
-headerOf t = record { clusterVersion = orElse 0 (intAt 1 t); connectionID = intAt 3 t; sequence = intAt 4 t; messageType = intAt 7 t }
+headerOf t =
+    record {
+      clusterVersion = orElse 0 (intAt Header-clusterVersion t);
+      connectionID = intAt Header-connectionID t;
+      sequence = intAt Header-sequence t;
+      messageType = intAt Header-messageType t;
+    }
 
 abbrev pub keyValueOf : Tree → KeyValue
 keyValueOf t =
     record {
-      newVersion = orElse [] (rawAt 2 t);
-      key = orElse [] (rawAt 3 t);
-      dbVersion = orElse [] (rawAt 4 t);
-      tag = orElse [] (rawAt 5 t);
-      algorithm = orElse 0 (intAt 6 t);
-      metadataOnly = flag (intAt 7 t);
-      force = flag (intAt 8 t);
+      newVersion = orElse [] (rawAt KeyValue-newVersion t);
+      key = orElse [] (rawAt KeyValue-key t);
+      dbVersion = orElse [] (rawAt KeyValue-dbVersion t);
+      tag = orElse [] (rawAt KeyValue-tag t);
+      algorithm = orElse 0 (intAt KeyValue-algorithm t);
+      metadataOnly = flag (intAt KeyValue-metadataOnly t);
+      force = flag (intAt KeyValue-force t);
     }
 
 abbrev pub rangeOf : Tree → Range
 rangeOf t =
     record {
-      startKey = rawAt 1 t;
-      endKey = rawAt 2 t;
-      startInclusive = flag (intAt 3 t);
-      endInclusive = flag (intAt 4 t);
-      maxReturned = orElse 32 (intAt 5 t);
-      reverse = flag (intAt 6 t);
+      startKey = rawAt Range-startKey t;
+      endKey = rawAt Range-endKey t;
+      startInclusive = flag (intAt Range-startKeyInclusive t);
+      endInclusive = flag (intAt Range-endKeyInclusive t);
+      maxReturned = orElse 32 (intAt Range-maxReturned t);
+      reverse = flag (intAt Range-reverse t);
     }
 
 abbrev pub setupOf : Tree → Option ℕ
-setupOf t = intAt 1 t
+setupOf t = intAt Setup-newClusterVersion t
 
 abbrev pub typesOf : Tree → List ℕ
-typesOf t = intsAt 1 t
+typesOf t = intsAt GetLog-types t
 
 abbrev pub scopeOf : Tree → Scope
-scopeOf t = record { offset = orElse 0 (intAt 1 t); value = orElse [] (rawAt 2 t); permissions = intsAt 3 t; tlsRequired = flag (intAt 4 t) }
+scopeOf t =
+    record {
+      offset = orElse 0 (intAt Scope-offset t);
+      value = orElse [] (rawAt Scope-value t);
+      permissions = intsAt Scope-permission t;
+      tlsRequired = flag (intAt Scope-TlsRequired t);
+    }
 
 abbrev pub aclOf : Tree → Acl
-aclOf t = record { identity = intAt 1 t; key = orElse [] (rawAt 2 t); hmacAlgorithm = orElse 1 (intAt 3 t); scopes = mapL scopeOf (subsAt 4 t) }
+aclOf t =
+    record {
+      identity = intAt ACL-identity t;
+      key = orElse [] (rawAt ACL-key t);
+      hmacAlgorithm = orElse 1 (intAt ACL-hmacAlgorithm t);
+      scopes = mapL scopeOf (subsAt ACL-scope t);
+    }
 
 abbrev pub securityOf : Tree → List Acl
-securityOf t = mapL aclOf (subsAt 2 t)
+securityOf t = mapL aclOf (subsAt Security-acl t)
 
 abbrev pub noBody : Body
 noBody = record { keyValue = none; range = none; setup = none; getLog = none; security = none }
@@ -110,12 +134,12 @@ noBody = record { keyValue = none; range = none; setup = none; getLog = none; se
 abbrev pub bodyOf : Tree → Body
 bodyOf t =
     record {
-      keyValue = mapO keyValueOf (subAt 1 t);
-      range = mapO rangeOf (subAt 2 t);
-      setup = mapO setupOf (subAt 3 t);
-      getLog = mapO typesOf (subAt 6 t);
-      security = mapO securityOf (subAt 7 t);
+      keyValue = mapO keyValueOf (subAt Body-keyValue t);
+      range = mapO rangeOf (subAt Body-range t);
+      setup = mapO setupOf (subAt Body-setup t);
+      getLog = mapO typesOf (subAt Body-getLog t);
+      security = mapO securityOf (subAt Body-security t);
     }
 
 abbrev pub commandOf : Tree → Command
-commandOf t = record { header = mapO headerOf (subAt 1 t); body = orElse noBody (mapO bodyOf (subAt 2 t)) }
+commandOf t = record { header = mapO headerOf (subAt Command-header t); body = orElse noBody (mapO bodyOf (subAt Command-body t)) }

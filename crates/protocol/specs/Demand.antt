@@ -5,6 +5,7 @@ use mathlib.Core.Logic.{_⊎_}
 use mathlib.Core.List.{List, _++_}
 use mathlib.Core.Option.{some}
 use lib.ListN.{length}
+use Rattle.fields_schema.specs.FieldNumbers.{Message-commandBytes, HMACauth-hmac}
 use Rattle.fields_schema.specs.Tree.{Tree}
 use Rattle.fields_schema.specs.PutIn.{Nothing, PutIn}
 use Rattle.protocol.specs.Frame.{frame, Fits}
@@ -16,8 +17,8 @@ use Rattle.protocol.specs.Reply.{replyBytes}
 
 -- in the message around it the commandBytes and the hmac are: Edited and Signed say by what, for those that count
 pub data Free : Kind → ℕ → List ℕ → List ℕ → Type 0 where
-  command : (b b' : List ℕ) → Free Message 7 b b'
-  hmac : (b b' : List ℕ) → Free HmacAuth 2 b b'
+  command : (b b' : List ℕ) → Free Message Message-commandBytes b b'
+  hmac : (b b' : List ℕ) → Free HmacAuth HMACauth-hmac b b'
 
 -- m' is the message m with fields put in, c of them inside the security part, and lengths corrected: around the command, and in the commandBytes that count
 pub record Edited (c : ℕ) (m m' : List ℕ) : Type 0 where

@@ -5,6 +5,8 @@ use mathlib.Core.Option.{Option, none, some}
 use mathlib.Core.Bool.{Bool, false, cond}
 use lib.Dec.{eqb, leb}
 use lib.ListN.{length}
+use Rattle.fields_schema.specs.FieldNumbers.{Message-authType, Message-hmacAuth, Message-commandBytes, HMACauth-identity, HMACauth-hmac, Command-body}
+use Rattle.fields_schema.specs.FieldNumbers.{Body-security}
 use Rattle.fields_schema.specs.Tree.{Tree, thenO, guard, intAt, rawAt, subAt, treeIn, subsAt, listed}
 use Rattle.base_definitions.specs.Lists.{sameBytes}
 use Rattle.base_definitions.specs.Options.{orElse}
@@ -20,7 +22,7 @@ pub data Envelope : Type 0 where
 abbrev pub sealed : Option Tree → Option (List ℕ) → Option Envelope
 sealed none c = none
 sealed (some u) none = none
-sealed (some u) (some c) = thenO (intAt 1 u) (λ i. some (envelope i (orElse [] (rawAt 2 u)) c))
+sealed (some u) (some c) = thenO (intAt HMACauth-identity u) (λ i. some (envelope i (orElse [] (rawAt HMACauth-hmac u)) c))
 
 -- authType is HMACAUTH
 abbrev pub isOne : Option ℕ → Bool
@@ -28,14 +30,14 @@ isOne none = false
 isOne (some a) = eqb a HMACAUTH
 
 abbrev pub envelopeOf : Tree → Option Envelope
-envelopeOf t = cond (isOne (intAt 4 t)) (sealed (subAt 5 t) (rawAt 7 t)) none
+envelopeOf t = cond (isOne (intAt Message-authType t)) (sealed (subAt Message-hmacAuth t) (rawAt Message-commandBytes t)) none
 
 unfoldable pub readMessage : List ℕ → Option Envelope
 readMessage m = thenO (listed Message m) (λ t. envelopeOf t)
 
 -- document 02, CR 5: "Security sent twice … stay[s] refused": in one body, or in two that are merged
 unfoldable pub securityOnce : Tree → Bool
-securityOnce t = leb (length (subsAt 7 (treeIn (subAt 2 t)))) 1
+securityOnce t = leb (length (subsAt Body-security (treeIn (subAt Command-body t)))) 1
 
 abbrev pub sentOnce : Tree → Option Tree
 sentOnce t = guard (securityOnce t) t

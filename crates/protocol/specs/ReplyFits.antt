@@ -5,6 +5,7 @@ use mathlib.Core.Bool.{true}
 use mathlib.Core.List.{List, [], _∷_}
 use mathlib.Core.Option.{Option, some}
 use lib.ListN.{length}
+use Rattle.fields_schema.specs.FieldNumbers.{Message-commandBytes}
 use Rattle.fields_schema.specs.Rules.{namesOf}
 use Rattle.fields_schema.specs.Tree.{isInt32, among, Tree, listed, rawAt}
 use Rattle.fields_schema.specs.declared.Kind.the-variants.{Message, ReplyCommand, ReplyBody, Capacity}
@@ -52,7 +53,7 @@ pub record Says (r : List ℕ) (message command : Tree) (value : List ℕ) : Typ
   pub commandBytes : List ℕ
   pub framed : frameOf r ≡ whole bytes value []
   pub message-read : listed Message bytes ≡ some message
-  pub carries : rawAt 7 message ≡ some commandBytes
+  pub carries : rawAt Message-commandBytes message ≡ some commandBytes
   pub command-read : listed ReplyCommand commandBytes ≡ some command
   -- it fits every reply buffer that is not refused
   pub short : length r ≤ 4096

@@ -8,6 +8,12 @@ ghost use Rattle.protocol.specs.Judge.{keyValue};
 ghost use Rattle.protocol.specs.Reply.{statusTree};
 ghost use Rattle.reply_command.specs.Parts.{bodyBytes};
 ghost use Rattle.reply_command.specs.Repeated.{ackOf, headerTo};
+ghost use Rattle.fields_schema.specs.FieldNumbers.{Command-header};
+use fields_schema::field_number::body;
+use fields_schema::field_number::command;
+use fields_schema::field_number::header;
+use fields_schema::field_number::key_value;
+use fields_schema::field_number::status;
 use fields_write_bytes::Maybe;
 
 // What a reply repeats: the identity, the connection's number, the request's sequence if it has one, and the reply's type.
@@ -35,19 +41,19 @@ pub fn push_status(out: &mut [u8], at: usize, code: u64) -> usize
     requires { ⌜ (30 ≤ at) × (at ≤ length (now out)) ⌝ }
     ensures { λ r. ⌜ Pushed r at (encode (statusTree code)) (now (out .entry)) (now (out .exit)) × (at ≤ r + 30) ⌝ }
 {
-    let a = fields_write_field::push_int(out, at, 1, code);
-    fields_write_field::push_head(out, a, 3, at - a)
+    let a = fields_write_field::push_int(out, at, status::CODE, code);
+    fields_write_field::push_head(out, a, command::STATUS, at - a)
 }
 
 // The header, the first part of a command.
 pub fn push_header(out: &mut [u8], at: usize, reply_to: ReplyTo) -> usize
     requires { ⌜ (60 ≤ at) × (at ≤ length (now out)) ⌝ }
-    ensures { λ r. ⌜ Pushed r at (lenField 1 (encode (headerTo «reply_to»))) (now (out .entry)) (now (out .exit)) × (at ≤ r + 60) ⌝ }
+    ensures { λ r. ⌜ Pushed r at (lenField Command-header (encode (headerTo «reply_to»))) (now (out .entry)) (now (out .exit)) × (at ≤ r + 60) ⌝ }
 {
-    let a = fields_write_field::push_int(out, at, 7, reply_to.kind);
-    let b = fields_write_optional::push_maybe(out, a, 6, ack(reply_to));
-    let c = fields_write_field::push_int(out, b, 3, reply_to.connection);
-    fields_write_field::push_head(out, c, 1, at - c)
+    let a = fields_write_field::push_int(out, at, header::MESSAGE_TYPE, reply_to.kind);
+    let b = fields_write_optional::push_maybe(out, a, header::ACK_SEQUENCE, ack(reply_to));
+    let c = fields_write_field::push_int(out, b, header::CONNECTION_ID, reply_to.connection);
+    fields_write_field::push_head(out, c, command::HEADER, at - c)
 }
 
 // A body with a keyValue; empty parts are left out, the keyValue is not.
@@ -63,10 +69,10 @@ pub fn push_key_value(
     ensures { λ r. ⌜ Pushed r at (bodyBytes (keyValue (now (key .entry)) (now (version .entry)) (now (tag .entry)) algorithm))
         (now (out .entry)) (now (out .exit)) × (at ≤ r + 202) ⌝ }
 {
-    let a = fields_write_optional::push_nonzero(out, at, 6, algorithm);
-    let b = fields_write_optional::push_nonempty(out, a, 5, tag);
-    let c = fields_write_optional::push_nonempty(out, b, 4, version);
-    let d = fields_write_optional::push_nonempty(out, c, 3, key);
-    let e = fields_write_field::push_head(out, d, 1, at - d);
-    fields_write_field::push_head(out, e, 2, at - e)
+    let a = fields_write_optional::push_nonzero(out, at, key_value::ALGORITHM, algorithm);
+    let b = fields_write_optional::push_nonempty(out, a, key_value::TAG, tag);
+    let c = fields_write_optional::push_nonempty(out, b, key_value::DB_VERSION, version);
+    let d = fields_write_optional::push_nonempty(out, c, key_value::KEY, key);
+    let e = fields_write_field::push_head(out, d, body::KEY_VALUE, at - d);
+    fields_write_field::push_head(out, e, command::BODY, at - e)
 }

@@ -7,6 +7,8 @@ ghost use Rattle.signature_hmac.specs.Hmac.{hmac as hmacOf};
 ghost use Rattle.fields_write_bytes.specs.Pushed.{Pushed};
 ghost use Rattle.fields_write_word.specs.Word.{low32Bytes};
 ghost use Rattle.reply_envelope.specs.Frames.{authBytes, Finished};
+use fields_schema::field_number::hmac_auth;
+use fields_schema::field_number::message;
 use protocol::auth_type::HMACAUTH;
 use signature_hmac::Mac;
 
@@ -27,10 +29,10 @@ fn push_auth(out: &mut [u8], at: usize, identity: u64, digest: &[u8]) -> usize
     requires { ⌜ (length (now digest) ≤ 20) × (80 ≤ at) × (at ≤ length (now out)) ⌝ }
     ensures { λ r. ⌜ Pushed r at (authBytes identity (now (digest .entry))) (now (out .entry)) (now (out .exit)) × (at ≤ r + 80) ⌝ }
 {
-    let b = fields_write_bytes_field::push_raw(out, at, 2, digest);
-    let c = fields_write_field::push_int(out, b, 1, identity);
-    let d = fields_write_field::push_head(out, c, 5, at - c);
-    fields_write_field::push_int(out, d, 4, HMACAUTH)
+    let b = fields_write_bytes_field::push_raw(out, at, hmac_auth::HMAC, digest);
+    let c = fields_write_field::push_int(out, b, hmac_auth::IDENTITY, identity);
+    let d = fields_write_field::push_head(out, c, message::HMAC_AUTH, at - c);
+    fields_write_field::push_int(out, d, message::AUTH_TYPE, HMACAUTH)
 }
 
 // What stands before the message and the value of a frame.
@@ -50,7 +52,7 @@ pub fn finish(s: &mut [u8], at: usize, end: usize, key: &[u8], identity: u64) ->
 {
     let value = s.len() - end;
     let h = sign(key, &s[at..end]);
-    let a = fields_write_field::push_head(s, at, 7, end - at);
+    let a = fields_write_field::push_head(s, at, message::COMMAND_BYTES, end - at);
     let b = push_auth(s, a, identity, &h);
     push_prefix(s, b, end - b, value)
 }

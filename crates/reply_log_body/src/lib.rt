@@ -3,6 +3,7 @@ ghost use mathlib.Core.Path.{_≡_};
 ghost use mathlib.Core.Bool.{true};
 ghost use Prim.Native.Nat.{_+_, _^_, _<_, _≤_};
 ghost use lib.ListN.{length};
+ghost use Rattle.fields_schema.specs.FieldNumbers.{GetLog-capacity, GetLog-limits};
 ghost use Rattle.fields_schema.specs.Tree.{mapO, guard, done};
 ghost use Rattle.fields_encoding.specs.Encode.{lenField, encode, subO, eachSub};
 ghost use Rattle.fields_write_bytes.specs.Pushed.{Pushed};
@@ -14,6 +15,11 @@ ghost use Rattle.protocol.specs.Reply.{capacityTree, limitsTree};
 ghost use Rattle.reply_command.specs.Parts.{bodyBytes};
 ghost use Rattle.reply_log_body.specs.Asked.{logBy};
 ghost use Rattle.reply_log_body.specs.LogSizes.{sizes, samplesIf};
+use fields_schema::field_number::body;
+use fields_schema::field_number::capacity;
+use fields_schema::field_number::command;
+use fields_schema::field_number::get_log;
+use fields_schema::field_number::limits;
 
 // The parts of a log: whether each is asked for.
 pub struct LogParts {
@@ -28,41 +34,47 @@ fn push_sizes(out: &mut [u8], at: usize) -> usize
     requires { ⌜ (60 ≤ at) × (at ≤ length (now out)) ⌝ }
     ensures { λ r. ⌜ Pushed r at (encode sizes) (now (out .entry)) (now (out .exit)) × (at ≤ r + 60) ⌝ }
 {
-    let a = fields_write_field::push_int(out, at, 4, 32);
-    let b = fields_write_field::push_int(out, a, 3, 16);
-    let c = fields_write_field::push_int(out, b, 2, 384);
-    fields_write_field::push_int(out, c, 1, 64)
+    let a = fields_write_field::push_int(out, at, limits::MAX_TAG_SIZE, 32);
+    let b = fields_write_field::push_int(out, a, limits::MAX_VERSION_SIZE, 16);
+    let c = fields_write_field::push_int(out, b, limits::MAX_VALUE_SIZE, 384);
+    fields_write_field::push_int(out, c, limits::MAX_KEY_SIZE, 64)
 }
 
-// Field 8: those, and the most of a message, a range's keys and the identities.
+// The limits: those, and the most of a message, a range's keys and the identities.
 fn push_limits(out: &mut [u8], at: usize) -> usize
     requires { ⌜ (120 ≤ at) × (at ≤ length (now out)) ⌝ }
-    ensures { λ r. ⌜ Pushed r at (lenField 8 (encode limitsTree)) (now (out .entry)) (now (out .exit)) × (at ≤ r + 120) ⌝ }
+    ensures { λ r. ⌜ Pushed r at (lenField GetLog-limits (encode limitsTree)) (now (out .entry)) (now (out .exit)) × (at ≤ r + 120) ⌝ }
 {
-    let a = fields_write_field::push_int(out, at, 10, 8);
-    let b = fields_write_field::push_int(out, a, 9, 32);
-    let c = fields_write_field::push_int(out, b, 8, 8192);
+    let a = fields_write_field::push_int(out, at, limits::MAX_IDENTITY_COUNT, 8);
+    let b = fields_write_field::push_int(out, a, limits::MAX_KEY_RANGE_COUNT, 32);
+    let c = fields_write_field::push_int(out, b, limits::MAX_MESSAGE_SIZE, 8192);
     let d = push_sizes(out, c);
-    fields_write_field::push_head(out, d, 8, at - d)
+    fields_write_field::push_head(out, d, get_log::LIMITS, at - d)
 }
 
-// Field 4: 512 bytes a block, and the used part of the blocks.
+// The capacity: 512 bytes a block, and the used part of the blocks.
 fn push_capacity(out: &mut [u8], at: usize, store: &[u8]) -> usize
     requires { ⌜ Good (now store) × (39 ≤ at) × (at ≤ length (now out)) ⌝ }
-    ensures { λ r. ⌜ Pushed r at (lenField 4 (encode (capacityTree (capacityOf (now (store .entry)))))) (now (out .entry)) (now (out .exit)) × (at ≤ r + 39) ⌝ }
+    ensures { λ r. ⌜ Pushed r at (lenField GetLog-capacity (encode (capacityTree (capacityOf (now (store .entry))))))
+        (now (out .entry)) (now (out .exit)) × (at ≤ r + 39) ⌝ }
 {
     let all = store.len() / 512;
     let used = store_layout::count(store);
     let full = log_binary32::portion_full(used, all);
-    let a = fields_write_bytes_field::push_float(out, at, 5, full);
-    let b = fields_write_field::push_int(out, a, 4, 512 * (all as u64));
-    fields_write_field::push_head(out, b, 4, at - b)
+    let a = fields_write_bytes_field::push_float(out, at, capacity::PORTION_FULL, full);
+    let b = fields_write_field::push_int(
+        out,
+        a,
+        capacity::NOMINAL_CAPACITY_IN_BYTES,
+        512 * (all as u64),
+    );
+    fields_write_field::push_head(out, b, get_log::CAPACITY, at - b)
 }
 
 // The limits, if they are asked for.
 fn push_asked_limits(out: &mut [u8], at: usize, asked: bool) -> usize
     requires { ⌜ (120 ≤ at) × (at ≤ length (now out)) ⌝ }
-    ensures { λ r. ⌜ Pushed r at (encode (subO 8 (guard asked limitsTree) done)) (now (out .entry)) (now (out .exit)) × (at ≤ r + 120) ⌝ }
+    ensures { λ r. ⌜ Pushed r at (encode (subO GetLog-limits (guard asked limitsTree) done)) (now (out .entry)) (now (out .exit)) × (at ≤ r + 120) ⌝ }
 {
     if asked {
         return push_limits(out, at);
@@ -73,7 +85,7 @@ fn push_asked_limits(out: &mut [u8], at: usize, asked: bool) -> usize
 // The capacity, if it is asked for.
 fn push_asked_capacity(out: &mut [u8], at: usize, store: &[u8], asked: bool) -> usize
     requires { ⌜ Good (now store) × (39 ≤ at) × (at ≤ length (now out)) ⌝ }
-    ensures { λ r. ⌜ Pushed r at (encode (subO 4 (mapO capacityTree (guard asked (capacityOf (now (store .entry))))) done))
+    ensures { λ r. ⌜ Pushed r at (encode (subO GetLog-capacity (mapO capacityTree (guard asked (capacityOf (now (store .entry))))) done))
         (now (out .entry)) (now (out .exit)) × (at ≤ r + 39) ⌝ }
 {
     if asked {
@@ -112,9 +124,27 @@ pub fn push_log(out: &mut [u8], at: usize, store: &[u8], readings: &[u8], parts:
     let a = push_asked_limits(out, at, parts.limits);
     let b = push_asked_capacity(out, a, store, parts.capacities);
     let t = log_readings::temperatures(readings);
-    let c = push_asked_samples(out, b, 3, readings, 0, t, true, parts.temperatures);
+    let c = push_asked_samples(
+        out,
+        b,
+        get_log::TEMPERATURES,
+        readings,
+        0,
+        t,
+        true,
+        parts.temperatures,
+    );
     let u = log_readings::utilizations(readings);
-    let d = push_asked_samples(out, c, 2, readings, 4, u, false, parts.utilizations);
-    let e = fields_write_field::push_head(out, d, 6, at - d);
-    fields_write_field::push_head(out, e, 2, at - e)
+    let d = push_asked_samples(
+        out,
+        c,
+        get_log::UTILIZATIONS,
+        readings,
+        4,
+        u,
+        false,
+        parts.utilizations,
+    );
+    let e = fields_write_field::push_head(out, d, body::GET_LOG, at - d);
+    fields_write_field::push_head(out, e, command::BODY, at - e)
 }

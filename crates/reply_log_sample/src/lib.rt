@@ -1,6 +1,7 @@
 // The readings in a log, document 02, CR 1: utilizations and temperatures, each written in front of what stands behind it.
 ghost use Prim.Native.Nat.{_+_, _^_, _<_, _≤_};
 ghost use lib.ListN.{length};
+ghost use Rattle.fields_schema.specs.FieldNumbers.{Utilization-value};
 ghost use Rattle.fields_schema.specs.Tree.{mapO, done};
 ghost use Rattle.fields_encoding.specs.Encode.{lenField, floatBytes, encode, fixO, eachSub};
 ghost use Rattle.fields_write_bytes.specs.Pushed.{Pushed};
@@ -9,15 +10,17 @@ ghost use Rattle.log_readings.specs.Lent.{placeAt, sampleOf};
 ghost use Rattle.log_readings.specs.Places.{Placed, Places};
 ghost use Rattle.protocol.specs.Reply.{sampleTree};
 ghost use Rattle.reply_log_sample.specs.Samples.{sampleTrees};
+use fields_schema::field_number::utilization;
 use log_binary32::Sent;
 
-// Field 2, a float if it is sent.
+// The value of a utilization or the current of a temperature, which have one number: a float, if it is sent.
 fn push_sent(out: &mut [u8], at: usize, value: Sent) -> usize
     requires { ⌜ (9 ≤ at) × (at ≤ length (now out)) ⌝ }
-    ensures { λ r. ⌜ Pushed r at (encode (fixO 2 (mapO floatBytes (sentBits value)) done)) (now (out .entry)) (now (out .exit)) × (at ≤ r + 9) ⌝ }
+    ensures { λ r. ⌜ Pushed r at (encode (fixO Utilization-value (mapO floatBytes (sentBits value)) done))
+        (now (out .entry)) (now (out .exit)) × (at ≤ r + 9) ⌝ }
 {
     match value {
-        Sent::Bits(bits) => fields_write_bytes_field::push_float(out, at, 2, bits),
+        Sent::Bits(bits) => fields_write_bytes_field::push_float(out, at, utilization::VALUE, bits),
         Sent::Omitted => at,
     }
 }
@@ -38,7 +41,7 @@ fn push_sample(
     let value = log_sample::value_at(readings, place, temperature);
     let a = push_sent(out, at, value);
     let name = log_sample::name_of(readings, place);
-    let b = fields_write_bytes_field::push_raw(out, a, 1, name);
+    let b = fields_write_bytes_field::push_raw(out, a, utilization::NAME, name);
     fields_write_field::push_head(out, b, n, at - b)
 }
 

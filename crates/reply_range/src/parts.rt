@@ -3,6 +3,7 @@ ghost use mathlib.Core.Path.{_≡_};
 ghost use mathlib.Core.Bool.{true};
 ghost use Prim.Native.Nat.{_+_, _≤_};
 ghost use lib.ListN.{length};
+ghost use Rattle.fields_schema.specs.FieldNumbers.{Range-keys};
 ghost use Rattle.fields_schema.specs.Tree.{done};
 ghost use Rattle.fields_encoding.specs.Encode.{lenField, encode, each};
 ghost use Rattle.fields_write_bytes.specs.Pushed.{Pushed};
@@ -10,6 +11,9 @@ ghost use Rattle.store_layout.specs.Store.{entriesOf, Good};
 ghost use Rattle.protocol.specs.Judge.{range};
 ghost use Rattle.reply_command.specs.Parts.{bodyBytes};
 ghost use Rattle.operation_range.specs.Keys.{keyAt, onward, keysFrom, Run};
+use fields_schema::field_number::body;
+use fields_schema::field_number::command;
+use fields_schema::field_number::range;
 
 // The place `i` steps on from the first.
 fn place(first: usize, i: usize, reverse: bool) -> usize
@@ -22,15 +26,15 @@ fn place(first: usize, i: usize, reverse: bool) -> usize
     first + i
 }
 
-// The key at a place of the store, as a field 8.
+// The key at a place of the store, as a field of a range.
 fn push_key(out: &mut [u8], at: usize, store: &[u8], i: usize) -> usize
     requires { ⌜ Good (now store) × (79 ≤ at) × (at ≤ length (now out)) ⌝ }
-    ensures { λ r. ⌜ Pushed r at (lenField 8 (keyAt (entriesOf (now (store .entry))) i)) (now (out .entry)) (now (out .exit)) × (at ≤ r + 79) ⌝ }
+    ensures { λ r. ⌜ Pushed r at (lenField Range-keys (keyAt (entriesOf (now (store .entry))) i)) (now (out .entry)) (now (out .exit)) × (at ≤ r + 79) ⌝ }
 {
     let e = store_find::entry_at(store, i);
     let start = e.key.start;
     let end = start + e.key.len;
-    fields_write_bytes_field::push_raw(out, at, 8, &store[start..end])
+    fields_write_bytes_field::push_raw(out, at, range::KEYS, &store[start..end])
 }
 
 // The keys of a run of places, in its order.
@@ -43,7 +47,7 @@ fn push_keys(
     reverse: bool,
 ) -> usize
     requires { ⌜ Good (now store) × Run first count reverse × (2528 ≤ at) × (at ≤ length (now out)) ⌝ }
-    ensures { λ r. ⌜ Pushed r at (encode (each 8 (keysFrom reverse first count (entriesOf (now (store .entry)))) done))
+    ensures { λ r. ⌜ Pushed r at (encode (each Range-keys (keysFrom reverse first count (entriesOf (now (store .entry)))) done))
         (now (out .entry)) (now (out .exit)) × (at ≤ r + 2528) ⌝ }
 {
     let mut i = count;
@@ -69,6 +73,6 @@ pub fn push_range(
         (now (out .entry)) (now (out .exit)) × (at ≤ r + 2558) ⌝ }
 {
     let a = push_keys(out, at, store, first, count, reverse);
-    let b = fields_write_field::push_head(out, a, 2, at - a);
-    fields_write_field::push_head(out, b, 2, at - b)
+    let b = fields_write_field::push_head(out, a, body::RANGE, at - a);
+    fields_write_field::push_head(out, b, command::BODY, at - b)
 }

@@ -15,6 +15,7 @@ use fields_lookup::parts::open_at;
 use fields_lookup::parts::part_of;
 use fields_repeated::next_part;
 use fields_schema::Kind;
+use fields_schema::field_number::acl;
 use request_scope::read_scope;
 
 // ---- a scope
@@ -55,7 +56,7 @@ fn add_scopes(s: &[u8], p: Part, device: &mut Record, place: usize) -> bool
     let mut left = p;
     let mut n: usize = 0;
     while n < 4 {
-        let x = next_part(s, left, 4);
+        let x = next_part(s, left, acl::SCOPE);
         let has = x.part.has;
         if !has {
             return 0 < n;
@@ -66,7 +67,7 @@ fn add_scopes(s: &[u8], p: Part, device: &mut Record, place: usize) -> bool
         left = x.rest;
         n += 1;
     }
-    let y = next_part(s, left, 4);
+    let y = next_part(s, left, acl::SCOPE);
     !y.part.has
 }
 
@@ -76,8 +77,8 @@ pub fn add_acl_from(s: &[u8], p: Part, device: &mut Record, place: usize) -> boo
     ensures { λ r. ⌜ Makes (aclTaken (aclIn (now (s .entry)) p)) r (now (device .exit)) (putOne (now (device .entry)) place (aclIn (now (s .entry)) p)) ⌝ }
 {
     let t = open_at(s, p, Kind::Acl);
-    let identity = num_of(t, 1);
-    let key = part_of(s, p, t, 2);
+    let identity = num_of(t, acl::IDENTITY);
+    let key = part_of(s, p, t, acl::KEY);
     let has = identity.has;
     if !has {
         return false;

@@ -7,6 +7,7 @@ use mathlib.Core.Bool.{Bool, true, false, cond}
 use Prim.Native.Nat.{ℕ, _≤_}
 use lib.ListN.{length}
 use lib.Dec.{leb}
+use Rattle.fields_schema.specs.FieldNumbers.{Body-keyValue, Body-range, Body-setup, Body-getLog, Body-security}
 use Rattle.fields_schema.specs.Tree.{guard, isSome, Tree, subAt, treeIn, subsAt}
 use Rattle.fields_schema.specs.declared.Kind.the-variants.{Command, Security}
 use Rattle.fields_lookup.specs.Views.{numView, bytesAt, Lies, Reads, Sub, treeOf}
@@ -44,29 +45,29 @@ pub record BodyLies (s : List ℕ) (b : Body) : Type 0 where
 
 -- what was read of the bodies that t joins; the security part counts where there is at most one
 pub record BodyIs (s : List ℕ) (t : Tree) (b : Body) : Type 0 where
-  pub keyed : b .keyed ≡ isSome (subAt 1 t)
-  pub entry : KeyValueIs s (treeIn (subAt 1 t)) (b .entry)
-  pub ranged : b .ranged ≡ isSome (subAt 2 t)
-  pub range : RangeIs s (treeIn (subAt 2 t)) (b .range)
-  pub changed : b .changed ≡ isSome (subAt 3 t)
-  pub cluster : SetupIs (treeIn (subAt 3 t)) (b .cluster)
-  pub logged : b .logged ≡ isSome (subAt 6 t)
-  pub secured : b .security .has ≡ isSome (subAt 7 t)
+  pub keyed : b .keyed ≡ isSome (subAt Body-keyValue t)
+  pub entry : KeyValueIs s (treeIn (subAt Body-keyValue t)) (b .entry)
+  pub ranged : b .ranged ≡ isSome (subAt Body-range t)
+  pub range : RangeIs s (treeIn (subAt Body-range t)) (b .range)
+  pub changed : b .changed ≡ isSome (subAt Body-setup t)
+  pub cluster : SetupIs (treeIn (subAt Body-setup t)) (b .cluster)
+  pub logged : b .logged ≡ isSome (subAt Body-getLog t)
+  pub secured : b .security .has ≡ isSome (subAt Body-security t)
   pub lies : Lies s (b .security)
   pub reads : Reads Security (bytesAt s (b .security))
-  pub security : length (subsAt 7 t) ≤ 1 → Sub Security s (b .security) (subAt 7 t)
+  pub security : length (subsAt Body-security t) ≤ 1 → Sub Security s (b .security) (subAt Body-security t)
 
 -- whether the bodies that t joins have a security; at most one, unless a singular field of the command was sent twice
 pub record Secured (t : Tree) (secured twice : Bool) : Type 0 where
-  pub here : secured ≡ isSome (subAt 7 t)
-  pub sole : twice ≡ false → length (subsAt 7 t) ≤ 1
+  pub here : secured ≡ isSome (subAt Body-security t)
+  pub sole : twice ≡ false → length (subsAt Body-security t) ≤ 1
 
 -- how many securities: none, one, or more
 abbrev pub capped : ℕ → ℕ
 capped n = cond (leb n 1) n 2
 
 abbrev pub CountIs : Tree → ℕ → Type 0
-CountIs t n = n ≡ capped (length (subsAt 7 t))
+CountIs t n = n ≡ capped (length (subsAt Body-security t))
 
 -- none where the command does not decode
 abbrev pub requestView : List ℕ → Request → Option c.Command

@@ -5,6 +5,7 @@ ghost use mathlib.Core.Path.{_≡_};
 ghost use mathlib.Core.List.{List};
 ghost use mathlib.Core.Bool.{true, false, cond};
 ghost use Prim.Native.Nat.{ℕ};
+ghost use Rattle.fields_schema.specs.FieldNumbers.{Command-body};
 ghost use Rattle.fields_schema.specs.Tree.{done, mapO, subAt, treeIn};
 ghost use Rattle.fields_lookup.specs.Views.{After, Inside, Merges, Only, Reads, bytesAt, treeOf};
 ghost use Rattle.protocol.specs.Command.{commandOf};
@@ -20,6 +21,8 @@ use fields_lookup::parts::part_of;
 use fields_lookup::parts::sent_twice;
 use fields_repeated::next_part;
 use fields_schema::Kind;
+use fields_schema::field_number::body;
+use fields_schema::field_number::command;
 use request_merged::entry_in;
 use request_merged::header_in;
 use request_merged::range_in;
@@ -90,11 +93,11 @@ fn read_body(s: &[u8], p: Part) -> Body
     ensures { λ r. ⌜ BodyIs (now (s .entry)) (treeOf (Kind.Body) (bytesAt (now (s .entry)) p)) r ⌝ }
 {
     let t = open_at(s, p, Kind::Body);
-    let a = part_of(s, p, t, 1);
-    let b = part_of(s, p, t, 2);
-    let c = part_of(s, p, t, 3);
-    let d = part_of(s, p, t, 6);
-    let security = part_of(s, p, t, 7);
+    let a = part_of(s, p, t, body::KEY_VALUE);
+    let b = part_of(s, p, t, body::RANGE);
+    let c = part_of(s, p, t, body::SETUP);
+    let d = part_of(s, p, t, body::GET_LOG);
+    let security = part_of(s, p, t, body::SECURITY);
     let twice = sent_twice(t);
     let entry = entry_in(s, p, a, twice);
     let range = range_in(s, p, b, twice);
@@ -129,12 +132,12 @@ fn merge_bodies(before: Body, after: Body) -> Body
 // Every body of the command in the part p.
 fn read_bodies(s: &[u8], p: Part) -> Body
     requires { ⌜ Inside (now s) p × Reads (Kind.Command) (bytesAt (now s) p) ⌝ }
-    ensures { λ r. ⌜ BodyIs (now (s .entry)) (treeIn (subAt 2 (treeOf (Kind.Command) (bytesAt (now (s .entry)) p)))) r ⌝ }
+    ensures { λ r. ⌜ BodyIs (now (s .entry)) (treeIn (subAt Command-body (treeOf (Kind.Command) (bytesAt (now (s .entry)) p)))) r ⌝ }
 {
     let mut left = p;
     let mut b = no_body();
     while 0 < left.len {
-        let x = next_part(s, left, 2);
+        let x = next_part(s, left, command::BODY);
         let has = x.part.has;
         if !has {
             return b;
@@ -148,8 +151,8 @@ fn read_bodies(s: &[u8], p: Part) -> Body
 // The same, where a is the last one, and the only one unless a singular field of the command was sent twice.
 fn body_in(s: &[u8], p: Part, a: Part, twice: bool) -> Body
     requires { ⌜ Inside (now s) p × Reads (Kind.Command) (bytesAt (now s) p)
-        × Only (Kind.Body) (now s) a twice (subAt 2 (treeOf (Kind.Command) (bytesAt (now s) p))) ⌝ }
-    ensures { λ r. ⌜ BodyIs (now (s .entry)) (treeIn (subAt 2 (treeOf (Kind.Command) (bytesAt (now (s .entry)) p)))) r ⌝ }
+        × Only (Kind.Body) (now s) a twice (subAt Command-body (treeOf (Kind.Command) (bytesAt (now s) p))) ⌝ }
+    ensures { λ r. ⌜ BodyIs (now (s .entry)) (treeIn (subAt Command-body (treeOf (Kind.Command) (bytesAt (now (s .entry)) p)))) r ⌝ }
 {
     let has = a.has;
     if !has {
@@ -167,7 +170,7 @@ fn securities(s: &[u8], p: Part, before: u64) -> u64
     ensures { λ r. ⌜ After CountIs before r (treeOf (Kind.Body) (bytesAt (now (s .entry)) p)) ⌝ }
 {
     let t = open_at(s, p, Kind::Body);
-    let a = part_of(s, p, t, 7);
+    let a = part_of(s, p, t, body::SECURITY);
     let has = a.has;
     if !has {
         return before;
@@ -181,12 +184,12 @@ fn securities(s: &[u8], p: Part, before: u64) -> u64
 // How many securities all bodies of the command in the part p have; 2 for more.
 fn all_securities(s: &[u8], p: Part) -> u64
     requires { ⌜ Inside (now s) p × Reads (Kind.Command) (bytesAt (now s) p) ⌝ }
-    ensures { λ r. ⌜ CountIs (treeIn (subAt 2 (treeOf (Kind.Command) (bytesAt (now (s .entry)) p)))) r ⌝ }
+    ensures { λ r. ⌜ CountIs (treeIn (subAt Command-body (treeOf (Kind.Command) (bytesAt (now (s .entry)) p)))) r ⌝ }
 {
     let mut left = p;
     let mut n = 0;
     while 0 < left.len {
-        let x = next_part(s, left, 2);
+        let x = next_part(s, left, command::BODY);
         let has = x.part.has;
         if !has {
             return n;
@@ -201,7 +204,7 @@ fn all_securities(s: &[u8], p: Part) -> u64
 // asked only where a singular field of the command was sent twice.
 fn secured_once(s: &[u8], p: Part, secured: bool, twice: bool) -> bool
     requires { ⌜ Inside (now s) p × Reads (Kind.Command) (bytesAt (now s) p)
-        × Secured (treeIn (subAt 2 (treeOf (Kind.Command) (bytesAt (now s) p)))) secured twice ⌝ }
+        × Secured (treeIn (subAt Command-body (treeOf (Kind.Command) (bytesAt (now s) p)))) secured twice ⌝ }
     ensures { λ r. ⌜ r ≡ securityOnce (treeOf (Kind.Command) (bytesAt (now (s .entry)) p)) ⌝ }
 {
     if !secured {
@@ -219,8 +222,8 @@ fn read_command(s: &[u8], p: Part) -> Request
     ensures { λ r. ⌜ (requestView (now (s .entry)) r ≡ mapO commandOf (decodes (now (s .entry)))) × BodyLies (now (s .entry)) (r .body) ⌝ }
 {
     let t = open_at(s, p, Kind::Command);
-    let h = part_of(s, p, t, 1);
-    let b = part_of(s, p, t, 2);
+    let h = part_of(s, p, t, command::HEADER);
+    let b = part_of(s, p, t, command::BODY);
     let twice = sent_twice(t);
     let header = header_in(s, p, h, twice);
     let body = body_in(s, p, b, twice);

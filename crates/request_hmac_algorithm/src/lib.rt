@@ -7,6 +7,8 @@ use fields_lookup::parts::num_of;
 use fields_lookup::parts::open_at;
 use fields_repeated::next_part;
 use fields_schema::Kind;
+use fields_schema::field_number::acl;
+use fields_schema::field_number::security;
 use request_command::numbers::number_or;
 
 fn algorithm_of(s: &[u8], p: Part) -> u64
@@ -14,7 +16,7 @@ fn algorithm_of(s: &[u8], p: Part) -> u64
     ensures { λ r. ⌜ r ≡ aclIn (now (s .entry)) p .hmacAlgorithm ⌝ }
 {
     let t = open_at(s, p, Kind::Acl);
-    number_or(num_of(t, 3), 1)
+    number_or(num_of(t, acl::HMAC_ALGORITHM), 1)
 }
 
 // Does no ACL of the Security in the part p name another algorithm than 1?
@@ -24,7 +26,7 @@ pub fn algorithms_good(s: &[u8], p: Part) -> bool
 {
     let mut left = p;
     while 0 < left.len {
-        let x = next_part(s, left, 2);
+        let x = next_part(s, left, security::ACL);
         let has = x.part.has;
         if !has {
             return true;

@@ -2,6 +2,7 @@
 use mathlib.Core.Path.{_≡_}
 use mathlib.Core.List.{List}
 use Prim.Native.Nat.{ℕ}
+use Rattle.fields_schema.specs.FieldNumbers.{Body-getLog}
 use Rattle.fields_schema.specs.Tree.{Tree, subAt, treeIn}
 use Rattle.access_record.specs.Table.{maskOf}
 use Rattle.protocol.specs.Command.{typesOf}
@@ -15,4 +16,4 @@ abbrev pub LogTypes : Tree → ℕ → Type 0
 LogTypes t mask = TypesAre (typesOf t) mask
 
 abbrev pub BodyTypes : Tree → ℕ → Type 0
-BodyTypes t mask = LogTypes (treeIn (subAt 6 t)) mask
+BodyTypes t mask = LogTypes (treeIn (subAt Body-getLog t)) mask

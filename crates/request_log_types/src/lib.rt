@@ -2,6 +2,7 @@
 ghost use mathlib.Core.Path.{_≡_};
 ghost use mathlib.Core.List.{List};
 ghost use Prim.Native.Nat.{ℕ, _<_};
+ghost use Rattle.fields_schema.specs.FieldNumbers.{Body-getLog};
 ghost use Rattle.fields_schema.specs.Tree.{among, subAt, treeIn};
 ghost use Rattle.fields_lookup.specs.Views.{After, Inside, Reads, bytesAt, treeOf};
 ghost use Rattle.request_merged.specs.Types.{logTypes};
@@ -12,6 +13,9 @@ use fields_lookup::parts::Part;
 use fields_repeated::next_num;
 use fields_repeated::next_part;
 use fields_schema::Kind;
+use fields_schema::field_number::body;
+use fields_schema::field_number::command;
+use fields_schema::field_number::get_log;
 use protocol::log_type::CONFIGURATION;
 use protocol::log_type::MESSAGES;
 use protocol::log_type::STATISTICS;
@@ -32,7 +36,7 @@ fn types_in(s: &[u8], p: Part, before: u16) -> u16
     let mut left = p;
     let mut mask = before;
     while 0 < left.len {
-        let x = next_num(s, left, 1);
+        let x = next_num(s, left, get_log::TYPES);
         let has = x.num.has;
         if !has {
             return mask;
@@ -46,12 +50,12 @@ fn types_in(s: &[u8], p: Part, before: u16) -> u16
 // The types before and those of every GetLog of the body in the part p.
 fn logs_in(s: &[u8], p: Part, before: u16) -> u16
     requires { ⌜ Inside (now s) p × Reads (Kind.Body) (bytesAt (now s) p) ⌝ }
-    ensures { λ r. ⌜ After LogTypes before r (treeIn (subAt 6 (treeOf (Kind.Body) (bytesAt (now (s .entry)) p)))) ⌝ }
+    ensures { λ r. ⌜ After LogTypes before r (treeIn (subAt Body-getLog (treeOf (Kind.Body) (bytesAt (now (s .entry)) p)))) ⌝ }
 {
     let mut left = p;
     let mut mask = before;
     while 0 < left.len {
-        let x = next_part(s, left, 6);
+        let x = next_part(s, left, body::GET_LOG);
         let has = x.part.has;
         if !has {
             return mask;
@@ -74,7 +78,7 @@ pub fn log_types(s: &[u8]) -> u16
     };
     let mut mask = 0;
     while 0 < left.len {
-        let x = next_part(s, left, 2);
+        let x = next_part(s, left, command::BODY);
         let has = x.part.has;
         if !has {
             return mask;

@@ -1,4 +1,5 @@
 // Messages of one number in a command or a body, merged.
+ghost use Rattle.fields_schema.specs.FieldNumbers.{Command-header, Body-keyValue, Body-range, Body-setup};
 ghost use Rattle.fields_schema.specs.Tree.{done, subAt, treeIn};
 ghost use Rattle.fields_lookup.specs.Views.{Inside, Only, Reads, bytesAt, treeOf};
 ghost use Rattle.request_parts.specs.Views.{HeaderIs, KeyValueIs, RangeIs};
@@ -10,6 +11,9 @@ use fields_lookup::parts::num_of;
 use fields_lookup::parts::open_at;
 use fields_repeated::next_part;
 use fields_schema::Kind;
+use fields_schema::field_number::body;
+use fields_schema::field_number::command;
+use fields_schema::field_number::setup;
 use request_parts::Header;
 use request_parts::KeyValue;
 use request_parts::Range;
@@ -26,12 +30,12 @@ use request_parts::read_range;
 // Every header of the command in the part p.
 fn read_headers(s: &[u8], p: Part) -> Header
     requires { ⌜ Inside (now s) p × Reads (Kind.Command) (bytesAt (now s) p) ⌝ }
-    ensures { λ r. ⌜ HeaderIs (treeIn (subAt 1 (treeOf (Kind.Command) (bytesAt (now (s .entry)) p)))) r ⌝ }
+    ensures { λ r. ⌜ HeaderIs (treeIn (subAt Command-header (treeOf (Kind.Command) (bytesAt (now (s .entry)) p)))) r ⌝ }
 {
     let mut left = p;
     let mut h = no_header();
     while 0 < left.len {
-        let x = next_part(s, left, 1);
+        let x = next_part(s, left, command::HEADER);
         let has = x.part.has;
         if !has {
             return h;
@@ -45,8 +49,8 @@ fn read_headers(s: &[u8], p: Part) -> Header
 // The same, where a is the last one, and the only one unless a singular field of the command was sent twice.
 pub fn header_in(s: &[u8], p: Part, a: Part, twice: bool) -> Header
     requires { ⌜ Inside (now s) p × Reads (Kind.Command) (bytesAt (now s) p)
-        × Only (Kind.Header) (now s) a twice (subAt 1 (treeOf (Kind.Command) (bytesAt (now s) p))) ⌝ }
-    ensures { λ r. ⌜ HeaderIs (treeIn (subAt 1 (treeOf (Kind.Command) (bytesAt (now (s .entry)) p)))) r ⌝ }
+        × Only (Kind.Header) (now s) a twice (subAt Command-header (treeOf (Kind.Command) (bytesAt (now s) p))) ⌝ }
+    ensures { λ r. ⌜ HeaderIs (treeIn (subAt Command-header (treeOf (Kind.Command) (bytesAt (now (s .entry)) p)))) r ⌝ }
 {
     let has = a.has;
     if !has {
@@ -61,12 +65,12 @@ pub fn header_in(s: &[u8], p: Part, a: Part, twice: bool) -> Header
 // Every keyValue of the body in the part p.
 fn read_key_values(s: &[u8], p: Part) -> KeyValue
     requires { ⌜ Inside (now s) p × Reads (Kind.Body) (bytesAt (now s) p) ⌝ }
-    ensures { λ r. ⌜ KeyValueIs (now (s .entry)) (treeIn (subAt 1 (treeOf (Kind.Body) (bytesAt (now (s .entry)) p)))) r ⌝ }
+    ensures { λ r. ⌜ KeyValueIs (now (s .entry)) (treeIn (subAt Body-keyValue (treeOf (Kind.Body) (bytesAt (now (s .entry)) p)))) r ⌝ }
 {
     let mut left = p;
     let mut e = no_key_value();
     while 0 < left.len {
-        let x = next_part(s, left, 1);
+        let x = next_part(s, left, body::KEY_VALUE);
         let has = x.part.has;
         if !has {
             return e;
@@ -80,8 +84,8 @@ fn read_key_values(s: &[u8], p: Part) -> KeyValue
 // The same, where a is the last one, and the only one unless a singular field of the body was sent twice.
 pub fn entry_in(s: &[u8], p: Part, a: Part, twice: bool) -> KeyValue
     requires { ⌜ Inside (now s) p × Reads (Kind.Body) (bytesAt (now s) p)
-        × Only (Kind.KeyValue) (now s) a twice (subAt 1 (treeOf (Kind.Body) (bytesAt (now s) p))) ⌝ }
-    ensures { λ r. ⌜ KeyValueIs (now (s .entry)) (treeIn (subAt 1 (treeOf (Kind.Body) (bytesAt (now (s .entry)) p)))) r ⌝ }
+        × Only (Kind.KeyValue) (now s) a twice (subAt Body-keyValue (treeOf (Kind.Body) (bytesAt (now s) p))) ⌝ }
+    ensures { λ r. ⌜ KeyValueIs (now (s .entry)) (treeIn (subAt Body-keyValue (treeOf (Kind.Body) (bytesAt (now (s .entry)) p)))) r ⌝ }
 {
     let has = a.has;
     if !has {
@@ -96,12 +100,12 @@ pub fn entry_in(s: &[u8], p: Part, a: Part, twice: bool) -> KeyValue
 // Every range of the body in the part p.
 fn read_ranges(s: &[u8], p: Part) -> Range
     requires { ⌜ Inside (now s) p × Reads (Kind.Body) (bytesAt (now s) p) ⌝ }
-    ensures { λ r. ⌜ RangeIs (now (s .entry)) (treeIn (subAt 2 (treeOf (Kind.Body) (bytesAt (now (s .entry)) p)))) r ⌝ }
+    ensures { λ r. ⌜ RangeIs (now (s .entry)) (treeIn (subAt Body-range (treeOf (Kind.Body) (bytesAt (now (s .entry)) p)))) r ⌝ }
 {
     let mut left = p;
     let mut g = no_range();
     while 0 < left.len {
-        let x = next_part(s, left, 2);
+        let x = next_part(s, left, body::RANGE);
         let has = x.part.has;
         if !has {
             return g;
@@ -115,8 +119,8 @@ fn read_ranges(s: &[u8], p: Part) -> Range
 // The same, where a is the last one, and the only one unless a singular field of the body was sent twice.
 pub fn range_in(s: &[u8], p: Part, a: Part, twice: bool) -> Range
     requires { ⌜ Inside (now s) p × Reads (Kind.Body) (bytesAt (now s) p)
-        × Only (Kind.Range) (now s) a twice (subAt 2 (treeOf (Kind.Body) (bytesAt (now s) p))) ⌝ }
-    ensures { λ r. ⌜ RangeIs (now (s .entry)) (treeIn (subAt 2 (treeOf (Kind.Body) (bytesAt (now (s .entry)) p)))) r ⌝ }
+        × Only (Kind.Range) (now s) a twice (subAt Body-range (treeOf (Kind.Body) (bytesAt (now s) p))) ⌝ }
+    ensures { λ r. ⌜ RangeIs (now (s .entry)) (treeIn (subAt Body-range (treeOf (Kind.Body) (bytesAt (now (s .entry)) p)))) r ⌝ }
 {
     let has = a.has;
     if !has {
@@ -142,18 +146,18 @@ fn read_setup(s: &[u8], p: Part) -> Num
     ensures { λ r. ⌜ SetupIs (treeOf (Kind.Setup) (bytesAt (now (s .entry)) p)) r ⌝ }
 {
     let t = open_at(s, p, Kind::Setup);
-    num_of(t, 1)
+    num_of(t, setup::NEW_CLUSTER_VERSION)
 }
 
 // Every setup of the body in the part p.
 fn read_setups(s: &[u8], p: Part) -> Num
     requires { ⌜ Inside (now s) p × Reads (Kind.Body) (bytesAt (now s) p) ⌝ }
-    ensures { λ r. ⌜ SetupIs (treeIn (subAt 3 (treeOf (Kind.Body) (bytesAt (now (s .entry)) p)))) r ⌝ }
+    ensures { λ r. ⌜ SetupIs (treeIn (subAt Body-setup (treeOf (Kind.Body) (bytesAt (now (s .entry)) p)))) r ⌝ }
 {
     let mut left = p;
     let mut n = no_setup();
     while 0 < left.len {
-        let x = next_part(s, left, 3);
+        let x = next_part(s, left, body::SETUP);
         let has = x.part.has;
         if !has {
             return n;
@@ -167,8 +171,8 @@ fn read_setups(s: &[u8], p: Part) -> Num
 // The same, where a is the last one, and the only one unless a singular field of the body was sent twice.
 pub fn setup_in(s: &[u8], p: Part, a: Part, twice: bool) -> Num
     requires { ⌜ Inside (now s) p × Reads (Kind.Body) (bytesAt (now s) p)
-        × Only (Kind.Setup) (now s) a twice (subAt 3 (treeOf (Kind.Body) (bytesAt (now s) p))) ⌝ }
-    ensures { λ r. ⌜ SetupIs (treeIn (subAt 3 (treeOf (Kind.Body) (bytesAt (now (s .entry)) p)))) r ⌝ }
+        × Only (Kind.Setup) (now s) a twice (subAt Body-setup (treeOf (Kind.Body) (bytesAt (now s) p))) ⌝ }
+    ensures { λ r. ⌜ SetupIs (treeIn (subAt Body-setup (treeOf (Kind.Body) (bytesAt (now (s .entry)) p)))) r ⌝ }
 {
     let has = a.has;
     if !has {

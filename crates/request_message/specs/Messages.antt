@@ -4,6 +4,7 @@ use mathlib.Core.Path.{_≡_}
 use mathlib.Core.List.{List}
 use mathlib.Core.Option.{Option}
 use Prim.Native.Nat.{ℕ}
+use Rattle.fields_schema.specs.FieldNumbers.{HMACauth-identity, HMACauth-hmac}
 use Rattle.fields_schema.specs.Tree.{guard, Tree, intAt, rawAt}
 use Rattle.fields_lookup.specs.Views.{bytesAt, numView, partView, Lies}
 use Rattle.protocol.specs.Reading.{Envelope, envelope}
@@ -20,6 +21,6 @@ pub record SealedLies (s : List ℕ) (r : Sealed) : Type 0 where
 
 -- what was read of the HMACauths that t joins
 pub record AuthIs (s : List ℕ) (t : Tree) (a : Auth) : Type 0 where
-  pub identity : numView (a .identity) ≡ intAt 1 t
-  pub hmac : partView s (a .hmac) ≡ rawAt 2 t
+  pub identity : numView (a .identity) ≡ intAt HMACauth-identity t
+  pub hmac : partView s (a .hmac) ≡ rawAt HMACauth-hmac t
   pub lies : Lies s (a .hmac)

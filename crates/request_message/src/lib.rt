@@ -3,6 +3,7 @@ ghost use mathlib.Core.Path.{_≡_};
 ghost use mathlib.Core.List.{List};
 ghost use Prim.Native.Nat.{ℕ};
 ghost use mathlib.Core.Bool.{false, cond};
+ghost use Rattle.fields_schema.specs.FieldNumbers.{Message-hmacAuth};
 ghost use Rattle.fields_schema.specs.Tree.{done, subAt, treeIn};
 ghost use Rattle.fields_lookup.specs.Views.{Inside, Merges, Only, Reads, bytesAt, numView, treeOf};
 ghost use Rattle.protocol.specs.Reading.{isOne, readMessage};
@@ -18,6 +19,8 @@ use fields_lookup::parts::part_of;
 use fields_lookup::parts::sent_twice;
 use fields_repeated::next_part;
 use fields_schema::Kind;
+use fields_schema::field_number::hmac_auth;
+use fields_schema::field_number::message;
 use protocol::auth_type::HMACAUTH;
 
 pub struct Auth {
@@ -78,8 +81,8 @@ fn read_auth(s: &[u8], p: Part) -> Auth
 {
     let t = open_at(s, p, Kind::HmacAuth);
     Auth {
-        identity: num_of(t, 1),
-        hmac: part_of(s, p, t, 2),
+        identity: num_of(t, hmac_auth::IDENTITY),
+        hmac: part_of(s, p, t, hmac_auth::HMAC),
     }
 }
 
@@ -95,12 +98,12 @@ fn merge_auths(before: Auth, after: Auth) -> Auth
 // Every HMACauth of the message in the part p.
 fn read_auths(s: &[u8], p: Part) -> Auth
     requires { ⌜ Inside (now s) p × Reads (Kind.Message) (bytesAt (now s) p) ⌝ }
-    ensures { λ r. ⌜ AuthIs (now (s .entry)) (treeIn (subAt 5 (treeOf (Kind.Message) (bytesAt (now (s .entry)) p)))) r ⌝ }
+    ensures { λ r. ⌜ AuthIs (now (s .entry)) (treeIn (subAt Message-hmacAuth (treeOf (Kind.Message) (bytesAt (now (s .entry)) p)))) r ⌝ }
 {
     let mut left = p;
     let mut a = no_auth();
     while 0 < left.len {
-        let x = next_part(s, left, 5);
+        let x = next_part(s, left, message::HMAC_AUTH);
         let has = x.part.has;
         if !has {
             return a;
@@ -114,8 +117,8 @@ fn read_auths(s: &[u8], p: Part) -> Auth
 // The same, where a is the last one, and the only one unless a singular field of the message was sent twice.
 fn auth_in(s: &[u8], p: Part, a: Part, twice: bool) -> Auth
     requires { ⌜ Inside (now s) p × Reads (Kind.Message) (bytesAt (now s) p)
-        × Only (Kind.HmacAuth) (now s) a twice (subAt 5 (treeOf (Kind.Message) (bytesAt (now s) p))) ⌝ }
-    ensures { λ r. ⌜ AuthIs (now (s .entry)) (treeIn (subAt 5 (treeOf (Kind.Message) (bytesAt (now (s .entry)) p)))) r ⌝ }
+        × Only (Kind.HmacAuth) (now s) a twice (subAt Message-hmacAuth (treeOf (Kind.Message) (bytesAt (now s) p))) ⌝ }
+    ensures { λ r. ⌜ AuthIs (now (s .entry)) (treeIn (subAt Message-hmacAuth (treeOf (Kind.Message) (bytesAt (now (s .entry)) p)))) r ⌝ }
 {
     let has = a.has;
     if !has {
@@ -132,9 +135,9 @@ fn read_sealed(s: &[u8], p: Part) -> Sealed
     ensures { λ r. ⌜ (sealedView (now (s .entry)) r ≡ readMessage (bytesAt (now (s .entry)) p)) × SealedLies (now (s .entry)) r ⌝ }
 {
     let t = open_at(s, p, Kind::Message);
-    let auth_type = num_of(t, 4);
-    let a = part_of(s, p, t, 5);
-    let command = part_of(s, p, t, 7);
+    let auth_type = num_of(t, message::AUTH_TYPE);
+    let a = part_of(s, p, t, message::HMAC_AUTH);
+    let command = part_of(s, p, t, message::COMMAND_BYTES);
     let auth = auth_in(s, p, a, sent_twice(t));
     let identity = auth.identity;
     let hmac = auth.hmac;

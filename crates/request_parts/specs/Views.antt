@@ -7,6 +7,9 @@ use Rattle.fields_lookup.specs.Views.{numView, partView, Lies}
 use Rattle.protocol.specs.Command as c
 use Rattle.base_definitions.specs.Options.{orElse}
 use Rattle.protocol.specs.Command.{flag}
+use Rattle.fields_schema.specs.FieldNumbers.{Header-clusterVersion, Header-connectionID, Header-sequence, Header-messageType, KeyValue-newVersion, KeyValue-key}
+use Rattle.fields_schema.specs.FieldNumbers.{KeyValue-dbVersion, KeyValue-tag, KeyValue-algorithm, KeyValue-metadataOnly, KeyValue-force, Range-startKey}
+use Rattle.fields_schema.specs.FieldNumbers.{Range-endKey, Range-startKeyInclusive, Range-endKeyInclusive, Range-maxReturned, Range-reverse}
 use Rattle.fields_schema.specs.Tree.{Tree, intAt, rawAt}
 use Rattle.request_parts.specs.declared.Header.{Header}
 use Rattle.request_parts.specs.declared.KeyValue.{KeyValue}
@@ -59,26 +62,26 @@ pub record RangeLies (s : List ℕ) (r : Range) : Type 0 where
 
 -- what is read of the headers, keyValues or ranges that t joins: each field as t has it
 pub record HeaderIs (t : Tree) (h : Header) : Type 0 where
-  pub cluster : numView (h .cluster) ≡ intAt 1 t
-  pub connection : numView (h .connection) ≡ intAt 3 t
-  pub sequence : numView (h .sequence) ≡ intAt 4 t
-  pub kind : numView (h .kind) ≡ intAt 7 t
+  pub cluster : numView (h .cluster) ≡ intAt Header-clusterVersion t
+  pub connection : numView (h .connection) ≡ intAt Header-connectionID t
+  pub sequence : numView (h .sequence) ≡ intAt Header-sequence t
+  pub kind : numView (h .kind) ≡ intAt Header-messageType t
 
 pub record KeyValueIs (s : List ℕ) (t : Tree) (k : KeyValue) : Type 0 where
-  pub version : partView s (k .version) ≡ rawAt 2 t
-  pub key : partView s (k .key) ≡ rawAt 3 t
-  pub expected : partView s (k .expected) ≡ rawAt 4 t
-  pub tag : partView s (k .tag) ≡ rawAt 5 t
-  pub algorithm : numView (k .algorithm) ≡ intAt 6 t
-  pub metadata : numView (k .metadata) ≡ intAt 7 t
-  pub force : numView (k .force) ≡ intAt 8 t
+  pub version : partView s (k .version) ≡ rawAt KeyValue-newVersion t
+  pub key : partView s (k .key) ≡ rawAt KeyValue-key t
+  pub expected : partView s (k .expected) ≡ rawAt KeyValue-dbVersion t
+  pub tag : partView s (k .tag) ≡ rawAt KeyValue-tag t
+  pub algorithm : numView (k .algorithm) ≡ intAt KeyValue-algorithm t
+  pub metadata : numView (k .metadata) ≡ intAt KeyValue-metadataOnly t
+  pub force : numView (k .force) ≡ intAt KeyValue-force t
   pub lies : KeyValueLies s k
 
 pub record RangeIs (s : List ℕ) (t : Tree) (r : Range) : Type 0 where
-  pub start : partView s (r .start) ≡ rawAt 1 t
-  pub end : partView s (r .end) ≡ rawAt 2 t
-  pub first : numView (r .first) ≡ intAt 3 t
-  pub last : numView (r .last) ≡ intAt 4 t
-  pub limit : numView (r .limit) ≡ intAt 5 t
-  pub reverse : numView (r .reverse) ≡ intAt 6 t
+  pub start : partView s (r .start) ≡ rawAt Range-startKey t
+  pub end : partView s (r .end) ≡ rawAt Range-endKey t
+  pub first : numView (r .first) ≡ intAt Range-startKeyInclusive t
+  pub last : numView (r .last) ≡ intAt Range-endKeyInclusive t
+  pub limit : numView (r .limit) ≡ intAt Range-maxReturned t
+  pub reverse : numView (r .reverse) ≡ intAt Range-reverse t
   pub lies : RangeLies s r

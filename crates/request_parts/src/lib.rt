@@ -12,6 +12,9 @@ use fields_lookup::parts::num_of;
 use fields_lookup::parts::open_at;
 use fields_lookup::parts::part_of;
 use fields_schema::Kind;
+use fields_schema::field_number::header;
+use fields_schema::field_number::key_value;
+use fields_schema::field_number::range;
 
 // clusterVersion, connectionID, sequence and messageType.
 pub struct Header {
@@ -48,10 +51,10 @@ pub fn read_header(s: &[u8], p: Part) -> Header
 {
     let t = open_at(s, p, Kind::Header);
     Header {
-        cluster: num_of(t, 1),
-        connection: num_of(t, 3),
-        sequence: num_of(t, 4),
-        kind: num_of(t, 7),
+        cluster: num_of(t, header::CLUSTER_VERSION),
+        connection: num_of(t, header::CONNECTION_ID),
+        sequence: num_of(t, header::SEQUENCE),
+        kind: num_of(t, header::MESSAGE_TYPE),
     }
 }
 
@@ -86,16 +89,16 @@ pub fn read_key_value(s: &[u8], p: Part) -> KeyValue
     ensures { λ r. ⌜ KeyValueIs (now (s .entry)) (treeOf (Kind.KeyValue) (bytesAt (now (s .entry)) p)) r ⌝ }
 {
     let t = open_at(s, p, Kind::KeyValue);
-    let version = part_of(s, p, t, 2);
-    let key = part_of(s, p, t, 3);
+    let version = part_of(s, p, t, key_value::NEW_VERSION);
+    let key = part_of(s, p, t, key_value::KEY);
     KeyValue {
         version,
         key,
-        expected: part_of(s, p, t, 4),
-        tag: part_of(s, p, t, 5),
-        algorithm: num_of(t, 6),
-        metadata: num_of(t, 7),
-        force: num_of(t, 8),
+        expected: part_of(s, p, t, key_value::DB_VERSION),
+        tag: part_of(s, p, t, key_value::TAG),
+        algorithm: num_of(t, key_value::ALGORITHM),
+        metadata: num_of(t, key_value::METADATA_ONLY),
+        force: num_of(t, key_value::FORCE),
     }
 }
 
@@ -142,12 +145,12 @@ pub fn read_range(s: &[u8], p: Part) -> Range
 {
     let t = open_at(s, p, Kind::Range);
     Range {
-        start: part_of(s, p, t, 1),
-        end: part_of(s, p, t, 2),
-        first: num_of(t, 3),
-        last: num_of(t, 4),
-        limit: num_of(t, 5),
-        reverse: num_of(t, 6),
+        start: part_of(s, p, t, range::START_KEY),
+        end: part_of(s, p, t, range::END_KEY),
+        first: num_of(t, range::START_KEY_INCLUSIVE),
+        last: num_of(t, range::END_KEY_INCLUSIVE),
+        limit: num_of(t, range::MAX_RETURNED),
+        reverse: num_of(t, range::REVERSE),
     }
 }
 

@@ -12,6 +12,7 @@ use fields_lookup::parts::open_at;
 use fields_lookup::parts::part_of;
 use fields_repeated::next_num;
 use fields_schema::Kind;
+use fields_schema::field_number::scope;
 use request_command::numbers::flag_of;
 use request_command::numbers::number_or;
 
@@ -36,7 +37,7 @@ pub fn permissions_of(s: &[u8], p: Part) -> Permissions
     let mut mask = 0;
     let mut n: usize = 0;
     while n < 10 {
-        let x = next_num(s, left, 3);
+        let x = next_num(s, left, scope::PERMISSION);
         let has = x.num.has;
         if !has {
             return Permissions { ok: 0 < n, mask };
@@ -95,9 +96,9 @@ pub fn read_scope(s: &[u8], p: Part) -> ReadScope
     ensures { λ r. ⌜ ScopeIs (now (s .entry)) (scopeIn (now (s .entry)) p) r ⌝ }
 {
     let t = open_at(s, p, Kind::Scope);
-    let value = part_of(s, p, t, 2);
-    let offset = number_or(num_of(t, 1), 0);
-    let tls = flag_of(num_of(t, 4));
+    let value = part_of(s, p, t, scope::VALUE);
+    let offset = number_or(num_of(t, scope::OFFSET), 0);
+    let tls = flag_of(num_of(t, scope::TLS_REQUIRED));
     let held = permissions_of(s, p);
     let ok = held.ok;
     if !ok {

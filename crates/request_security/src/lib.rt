@@ -11,6 +11,7 @@ use access_record::Record;
 use access_table_write::clear_table;
 use fields_lookup::parts::Part;
 use fields_repeated::next_part;
+use fields_schema::field_number::security;
 use request_acl::add_acl_from;
 
 // The ACLs of the Security in the part p, judged and written from ACL 0 on.
@@ -22,7 +23,7 @@ fn add_acls(s: &[u8], p: Part, device: &mut Record) -> bool
     let mut left = p;
     let mut n: usize = 0;
     while n < 8 {
-        let x = next_part(s, left, 2);
+        let x = next_part(s, left, security::ACL);
         let has = x.part.has;
         if !has {
             return 0 < n;
@@ -33,7 +34,7 @@ fn add_acls(s: &[u8], p: Part, device: &mut Record) -> bool
         left = x.rest;
         n += 1;
     }
-    let y = next_part(s, left, 2);
+    let y = next_part(s, left, security::ACL);
     !y.part.has
 }
 

@@ -14,8 +14,8 @@ mul-start c = search needs
 element-copy-out-start : tie.Need-element-copy-out-start
 element-copy-out-start c = search needs
 
-add-t10 : tie.Need-add-t10
-add-t10 c = let o = c .before .before .before .before .before in let b = c .before .before .before .marked in let f = part-fits (now (o .args .s)) (o .args .p) (o .args .t3) (o .args .n) (o .pre .2) (b .result) (b .ensures) (c .before .before .if1 .taken) (o .pre .3) in record { fits = omega arith }
+add-t9 : tie.Need-add-t9
+add-t9 c = let o = c .before .before .before .before .before in let b = c .before .before .before .marked in let f = part-fits (now (o .args .s)) (o .args .p) (o .args .t3) (o .args .n) (o .pre .2) (b .result) (b .ensures) (c .before .before .if1 .taken) (o .pre .3) in record { fits = omega arith }
 
 mul-t14 : tie.Need-mul-t14
 mul-t14 c = search needs
@@ -36,7 +36,7 @@ part-of-spec =
     marked-requires
     mul-start
     element-copy-out-start
-    add-t10
+    add-t9
     mul-t14
     element-copy-out-t17
     returns
