@@ -59,7 +59,7 @@ static void finish(uint32_t h[5], uint64_t taken, const uint8_t *text, size_t n,
 
 uint32_t plain_sha1(const uint8_t *text, size_t n, uint8_t *out) {
     uint32_t h[5];
-    if ((uint64_t)n >> 60) return 1;
+    if ((uint64_t)n >> 61) return 1;
     start(h);
     finish(h, 0, text, n, out);
     return 0;

@@ -3,7 +3,7 @@
 #include <stddef.h>
 #include <stdint.h>
 
-/* 0, or 1 for a text of 2^60 bytes or more. */
+/* 0, or 1 for a text of 2^61 bytes or more. */
 uint32_t plain_sha1(const uint8_t *text, size_t text_len, uint8_t *digest);
 
 /* 0, or 1 for a key over 128 bytes, else 2 for a text over 1,048,576. */

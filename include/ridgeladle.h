@@ -109,7 +109,7 @@ uint32_t ridgeladle_find(const uint8_t *store, size_t store_len, const uint8_t *
    Old contents of the report do not matter. Or STORE_BAD, for the store's length alone, else REPORT_BAD. */
 uint32_t ridgeladle_rescue(uint8_t *store, size_t store_len, uint8_t *report, size_t report_len);
 
-/* SHA-1 (FIPS 180-4). 0 and the 20 bytes of the digest; or 1 for a text of 2^60 bytes or more, and nothing is written. */
+/* SHA-1 (FIPS 180-4). 0 and the 20 bytes of the digest; or 1 for a text of 2^61 bytes or more, and nothing is written. */
 uint32_t ridgeladle_sha1(const uint8_t *text, size_t text_len, uint8_t *digest);
 
 /* HMAC-SHA1 (RFC 2104). 0 and the 20 bytes of the digest; or 1 for a key over 128 bytes, else 2 for a text over 1,048,576 bytes, and

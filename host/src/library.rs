@@ -118,7 +118,7 @@ pub fn rescue(store: &mut [u8]) -> Result<Vec<u8>, u32> {
     Ok(report)
 }
 
-/// None for a text of 2^60 bytes or more.
+/// None for a text of 2^61 bytes or more.
 pub fn sha1(text: &[u8]) -> Option<[u8; 20]> {
     let mut digest = [0; 20];
     refused(unsafe { ridgeladle_sha1(text.as_ptr(), text.len(), digest.as_mut_ptr()) }).ok().map(|()| digest)

@@ -66,7 +66,7 @@ pub extern "C" fn ridgeladle_rescue(store: &mut [u8], report: &mut [u8]) -> u32
     c_calls::store::rescue(store, report)
 }
 
-// 0 and the digest; or 1 for a text of 2^60 bytes or more, and nothing is written.
+// 0 and the digest; or 1 for a text of 2^61 bytes or more, and nothing is written.
 #[no_mangle]
 pub extern "C" fn ridgeladle_sha1(text: &[u8], digest: &mut [u8; 20]) -> u32
     ensures { λ r. ⌜ Written (sha1Answer (now (text .entry))) (now (digest .entry)) r (now (digest .exit)) ⌝ }

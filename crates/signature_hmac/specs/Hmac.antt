@@ -27,6 +27,7 @@ unfoldable pub hmac : List ℕ → List ℕ → List ℕ
 hmac key text = bytes (hmacWords key text)
 
 -- document 01: "keys up to 128 bytes, … and up to 1,048,576 of text, else says so and gives no digest"
+-- The standards would take a text of up to 2^61 - 65 bytes: with the 64 of the pad before it, one that SHA-1 takes.
 unfoldable pub hmacAnswer : List ℕ → List ℕ → Answer
 hmacAnswer key text =
     cond (leb (length key) 128)

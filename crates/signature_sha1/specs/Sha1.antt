@@ -59,9 +59,9 @@ pub record Answer : Type 0 where
   pub number : ℕ
   pub digest : List ℕ
 
--- a text of 2^60 bytes or more has no digest here (house; the standard ends at 2^61)
+-- §1: a text of fewer than 2^64 bits, so of at most 2^61 - 1 bytes; a longer one has no digest
 unfoldable pub sha1Answer : List ℕ → Answer
-sha1Answer text = cond (ltb (length text) (2 ^ 60)) (record { number = 0; digest = sha1 text }) (record { number = 1; digest = [] })
+sha1Answer text = cond (ltb (8 * length text) (2 ^ 64)) (record { number = 0; digest = sha1 text }) (record { number = 1; digest = [] })
 
 -- the number and the bytes of each case of the enum
 abbrev pub digestAnswer : Digest → Answer

@@ -1,16 +1,17 @@
 -- What follows of the definitions of `Sha1`: the padding, and the steps that a loop takes.
 -- Assumes nothing.
 use mathlib.Core.Path.{_≡_, refl, sym, ap, ap₂, _∙_}
-use mathlib.Core.List.{List, _++_}
+use mathlib.Core.List.{List, [], _++_}
 use Prim.Native.Nat.{ℕ, zero, suc, _+_, _-_, _*_, _/_, _%_, _^_, _≤_, _<_}
 use native.Mathlib.Omega.{arith}
 use native.Mathlib.Numerals.{add-one}
 use lib.ListN.{length, getD, take, drop, length-append, length-drop, length-replicate}
 use lib.Seq.{drop-append-le, take-append-le, drop-drop, take-all, take-at, drop-at}
 use native.Mathlib.Nat.{add-zero, add-suc}
+use borrow.Author.Tests.{lt-ltb, le-ltb}
 use Rattle.signature_sha1_compression.specs.declared.State.{State}
 use Rattle.signature_sha1_compression.specs.Compression.{compress}
-use Rattle.signature_sha1.specs.Sha1.{block, chain, be, zeros, pad, overall, finish}
+use Rattle.signature_sha1.specs.Sha1.{block, chain, be, zeros, pad, overall, finish, sha1, sha1Answer}
 
 pub chain-none : (h : State) (bs : List ℕ) → chain h bs 0 ≡ h
 unfolding chain
@@ -108,3 +109,12 @@ overall-two h a b e l =
     let n : length (a ++ b) ≡ 128 = simp (length-append, e, l) refl in
     ap (λ (n : ℕ). chain h (a ++ b) (n / 64)) n
     ∙ ap₂ compress (ap (compress h) (take-at a b 64 e)) (ap (take 64) (drop-at a b 64 e) ∙ take-all 64 b (omega arith))
+
+-- §1's limit in bytes: every text of up to 2^61 - 1 has its digest, and no longer one has any
+pub taken-up-to : (text : List ℕ) → length text ≤ 2 ^ 61 - 1 → sha1Answer text ≡ record { number = 0; digest = sha1 text }
+unfolding sha1Answer
+taken-up-to text h = rw (lt-ltb (8 * length text) (2 ^ 64) (omega arith))
+
+pub refused-from : (text : List ℕ) → 2 ^ 61 ≤ length text → sha1Answer text ≡ record { number = 1; digest = [] }
+unfolding sha1Answer
+refused-from text h = rw (le-ltb (8 * length text) (2 ^ 64) (omega arith))

@@ -25,7 +25,7 @@ fn marked(rest: &[u8]) -> [u8; 64]
 
 // The block with the size in bits of a message of n bytes as its last eight bytes.
 fn sized(block: [u8; 64], n: usize) -> [u8; 64]
-    requires { ⌜ (length block ≡ 64) × (n < 2 ^ 60) ⌝ }
+    requires { ⌜ (length block ≡ 64) × (n < 2 ^ 61) ⌝ }
     ensures { λ r. ⌜ r ≡ sizedBlock block n ⌝ }
 {
     let mut b = block;
@@ -39,7 +39,7 @@ fn sized(block: [u8; 64], n: usize) -> [u8; 64]
 
 // The hash value after the last bytes of a message of n bytes and the padding: one block more, or two.
 fn last(h: State, rest: &[u8], n: usize) -> State
-    requires { ⌜ (length (now rest) ≡ n % 64) × (n < 2 ^ 60) ⌝ }
+    requires { ⌜ (length (now rest) ≡ n % 64) × (n < 2 ^ 61) ⌝ }
     ensures { λ r. ⌜ r ≡ overall h (now (rest .entry) ++ pad n) ⌝ }
 {
     let b = marked(rest);
@@ -54,7 +54,7 @@ fn last(h: State, rest: &[u8], n: usize) -> State
 
 // The hash value of a message of which h has taken `taken` bytes, whole blocks, and text is the rest.
 fn finish(h: State, taken: usize, text: &[u8]) -> State
-    requires { ⌜ (taken % 64 ≡ 0) × (taken + length (now text) < 2 ^ 60) ⌝ }
+    requires { ⌜ (taken % 64 ≡ 0) × (taken + length (now text) < 2 ^ 61) ⌝ }
     ensures { λ r. ⌜ r ≡ finished h taken (now (text .entry)) ⌝ }
 {
     let count = text.len() / 64;
@@ -111,7 +111,7 @@ fn start() -> State
 
 // The hash value of a text.
 pub fn hash(text: &[u8]) -> State
-    requires { ⌜ length (now text) < 2 ^ 60 ⌝ }
+    requires { ⌜ length (now text) < 2 ^ 61 ⌝ }
     ensures { λ r. ⌜ r ≡ sha1Words (now (text .entry)) ⌝ }
 {
     finish(start(), 0, text)
@@ -119,7 +119,7 @@ pub fn hash(text: &[u8]) -> State
 
 // The hash value of a block and a text behind it.
 pub fn hash_after(block: &[u8], text: &[u8]) -> State
-    requires { ⌜ (length (now block) ≡ 64) × (64 + length (now text) < 2 ^ 60) ⌝ }
+    requires { ⌜ (length (now block) ≡ 64) × (64 + length (now text) < 2 ^ 61) ⌝ }
     ensures { λ r. ⌜ r ≡ sha1Words (now (block .entry) ++ now (text .entry)) ⌝ }
 {
     finish(compress(start(), block), 64, text)
@@ -131,11 +131,11 @@ pub enum Digest {
     TooLong,
 }
 
-// SHA-1 of a text of fewer than 2^60 bytes.
+// SHA-1 of a text of fewer than 2^61 bytes.
 pub fn sha1(text: &[u8]) -> Digest
     ensures { λ r. ⌜ digestAnswer r ≡ sha1Answer (now (text .entry)) ⌝ }
 {
-    if text.len() < 1152921504606846976 {
+    if text.len() < 2305843009213693952 {
         return Digest::Made(hash(text));
     }
     Digest::TooLong
