@@ -1,0 +1,3 @@
+-- The numbers that the documents give, and that the definitions behave so.
+pub mod Documented
+pub mod DocumentedLaws

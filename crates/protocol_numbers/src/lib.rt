@@ -1,0 +1,1 @@
+// The numbers that the documents give, shown of the definitions: laws alone.
