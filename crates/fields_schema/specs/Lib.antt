@@ -10,6 +10,7 @@ pub mod EqualButLaws
 pub mod FrontLaws
 pub mod Boundaries
 pub mod BoundariesLaws
+pub mod PutInTwiceLaws
 pub mod PutInExampleLaws
 pub mod DepthLaws
 pub mod OptionLaws
@@ -21,3 +22,5 @@ pub mod OnceLaws
 pub mod Said
 pub mod ConcatLaws
 pub mod OccurrenceLaws
+pub mod Replaced
+pub mod ReplacedLaws

@@ -1,13 +1,17 @@
--- Worked examples: the field 15 with the number 1 (78 01), which no kind lists, put in at every depth.
-use Prim.Native.Nat.{ℕ, _+_, _*_}
-use mathlib.Core.Path.{_≡_, refl, _∙_, subst₂}
+-- Worked examples: each way of `PutIn` by itself, and the field 15 with the number 1 (78 01), which no kind lists, put in at every depth.
+use Prim.Native.Nat.{ℕ, _+_, _*_, _≤_, _<_}
+use native.Mathlib.Omega.{arith}
+use mathlib.Core.Path.{_≡_, refl, sym, ap, _∙_, subst₂}
 use mathlib.Core.List.{List, [], _∷_, _++_, append-nil}
 use mathlib.Core.Option.{none, some}
 use lib.ListN.{length}
-use Rattle.fields_wire.specs.Wire.{varintIn, vint, field, valueOf, readField, fieldsIn, fieldsOf, Framed}
+use Rattle.fields_wire.specs.Reader.{got}
+use Rattle.fields_wire.specs.Wire.{varintIn, varint, vint, field, valueOf, readField, fieldsIn, fieldsOf, Framed}
+use Rattle.fields_wire.specs.VarintLaws.{varint-one, varint-whole}
 use Rattle.fields_schema.specs.Rules.{ruleOf}
 use Rattle.fields_schema.specs.Tree.{items, level, done, int, raw, sub, openAll, listedIn, listed}
-use Rattle.fields_schema.specs.PutIn.{Has, Holds, Nothing, PutIn}
+use Rattle.fields_schema.specs.PutIn.{Has, Holds, Replaces, Nothing, PutIn}
+use Rattle.fields_schema.specs.FrontLaws.{framed-bytes}
 use Rattle.fields_schema.specs.PutInLaws.{put-in-same}
 use Rattle.fields_schema.specs.StrictLaws.{put-in-refused}
 use Rattle.fields_schema.specs.Boundaries.{PutAt}
@@ -32,6 +36,50 @@ up : {j k : Kind} (n : ℕ) (k' : Kind) (b b' : List ℕ) → Holds n b (hold n 
 unfolding fieldsOf fieldsIn
 up {j} {k} n k' b b' h h' g p =
     subst₂ (PutAt added j k) (append-nil (hold n b)) (append-nil (hold n b')) (PutAt.inside [] [] refl n k' b b' h h' g p)
+
+-- each way by itself ------------------------------------------------------------------------------------------------------
+
+one-byte : (v : ℕ) → v < 128 → varint (v ∷ []) ≡ got v []
+one-byte v h = ap varint (sym (varint-one v h)) ∙ varint-whole v (omega arith)
+
+held : (n : ℕ) (b : List ℕ) → 1 ≤ n → n ≤ 15 → length b < 128 → Holds n b (hold n b)
+held n b p q h = framed-bytes n ((n * 8 + 2) ∷ []) (length b ∷ []) b (one-byte (n * 8 + 2) (omega arith)) p (omega arith) (one-byte (length b) h)
+
+-- same: nothing is put in
+as-it-stands : (m : List ℕ) → PutIn Nothing Security 0 m m
+as-it-stands m = PutIn.same Security m
+
+-- put: outside the security part it does not count, inside it does, each of them
+two-put : (m : List ℕ) → PutIn Nothing Header 0 m (added ++ (added ++ m))
+two-put m = PutIn.put 15 (vint 1) y refl (PutIn.put 15 (vint 1) y refl (PutIn.same Header m))
+
+two-counted : (m : List ℕ) → PutIn Nothing Scope 2 m (added ++ (added ++ m))
+two-counted m = PutIn.put 15 (vint 1) y refl (PutIn.put 15 (vint 1) y refl (PutIn.same Scope m))
+
+-- keep: connectionID 1, its tag in one byte and in two
+tag-longer : (m m' : List ℕ) {c : ℕ} → PutIn Nothing Header c m m' → PutIn Nothing Header c ((0x18 ∷ 0x01 ∷ []) ++ m) ((0x98 ∷ 0x00 ∷ 0x01 ∷ []) ++ m')
+unfolding readField valueOf varintIn
+tag-longer m m' p = PutIn.keep {x = 0x18 ∷ 0x01 ∷ []} {x' = 0x98 ∷ 0x00 ∷ 0x01 ∷ []} (field 3 (vint 1)) (record { whole = refl }) (record { whole = refl }) p
+
+-- inside: a Scope in an ACL; what is put into it counts, and what is put in after it
+in-both : (b b' m m' : List ℕ) {c d : ℕ} → length b < 128 → length b' < 128 → PutIn Nothing Scope c b b' → PutIn Nothing Acl d m m'
+    → PutIn Nothing Acl (c + d) (hold 4 b ++ m) (hold 4 b' ++ m')
+in-both b b' m m' h h' p q = PutIn.inside 4 Scope b b' (held 4 b (omega arith) (omega arith) h) (held 4 b' (omega arith) (omega arith) h') refl p q
+
+-- hidden: "the contents of Message 6", and of a status: any others
+other-six : (b b' m m' : List ℕ) {c : ℕ} → length b < 128 → length b' < 128 → PutIn Nothing Message c m m' → PutIn Nothing Message c (hold 6 b ++ m) (hold 6 b' ++ m')
+other-six b b' m m' h h' p = PutIn.hidden 6 b b' (held 6 b (omega arith) (omega arith) h) (held 6 b' (omega arith) (omega arith) h') refl p
+
+other-status : (b b' m m' : List ℕ) {c : ℕ} → length b < 128 → length b' < 128 → PutIn Nothing Command c m m' → PutIn Nothing Command c (hold 3 b ++ m) (hold 3 b' ++ m')
+other-status b b' m m' h h' p = PutIn.hidden 3 b b' (held 3 b (omega arith) (omega arith) h) (held 3 b' (omega arith) (omega arith) h') refl p
+
+-- skipped: the contents "of unlisted fields of wire type 2": any others
+other-unlisted : (b b' m m' : List ℕ) {c : ℕ} → length b < 128 → length b' < 128 → PutIn Nothing Body c m m' → PutIn Nothing Body c (hold 15 b ++ m) (hold 15 b' ++ m')
+other-unlisted b b' m m' h h' p = PutIn.skipped 15 b b' (held 15 b (omega arith) (omega arith) h) (held 15 b' (omega arith) (omega arith) h') refl p
+
+-- replaced: an hmac, by one that R allows
+other-hmac : (R : Replaces) (b b' m m' : List ℕ) {c : ℕ} → length b < 128 → length b' < 128 → R HmacAuth 2 b b' → PutIn R HmacAuth c m m' → PutIn R HmacAuth c (hold 2 b ++ m) (hold 2 b' ++ m')
+other-hmac R b b' m m' h h' w p = PutIn.replaced 2 b b' (held 2 b (omega arith) (omega arith) h) (held 2 b' (omega arith) (omega arith) h') refl w p
 
 -- outside the security part -----------------------------------------------------------------------------------------------
 
