@@ -30,9 +30,3 @@ minus-two = refl
 minus-one : varintBytes (2 ^ 64 - 1) ≡ 0xff ∷ 0xff ∷ 0xff ∷ 0xff ∷ 0xff ∷ 0xff ∷ 0xff ∷ 0xff ∷ 0xff ∷ 0x01 ∷ []
 unfolding varintUp
 minus-one = refl
-
--- document 01, W1: the command of a NOOP_RESPONSE to connection 1, sequence 2
-noop-response : encode (sub 1 (int 3 1 (int 6 2 (int 7 29 done))) (sub 3 (int 1 1 done) done))
-    ≡ 0x0a ∷ 0x06 ∷ 0x18 ∷ 0x01 ∷ 0x30 ∷ 0x02 ∷ 0x38 ∷ 0x1d ∷ 0x1a ∷ 0x02 ∷ 0x08 ∷ 0x01 ∷ []
-unfolding encode varintUp
-noop-response = refl

@@ -13,4 +13,3 @@ pub mod Decides
 pub mod DecidesLaws
 pub mod Direct
 pub mod DirectLaws
-pub mod ReadingsLaws

@@ -11,4 +11,3 @@ pub mod Check
 pub mod CheckLaws
 pub mod After
 pub mod KeptLaws
-pub mod ReadingsLaws
