@@ -28,7 +28,17 @@ abbrev pub around : {j k : Kind} {m : List ℕ} → Boundary j k m → ℕ
 around (here a r e) = 0
 around (inside a r e n k' b h g p) = suc (around p)
 
-pub record Taken (y : List ℕ) (j k : Kind) (m : List ℕ) (d : ℕ) : Type 0 where
+-- where bytes are put in
+abbrev pub boundaryOf : {y : List ℕ} {j k : Kind} {m m' : List ℕ} → PutAt y j k m m' → Boundary j k m
+boundaryOf (here a r e) = Boundary.here a r e
+boundaryOf (inside a r e n k' b b' h h' g p) = Boundary.inside a r e n k' b h g (boundaryOf p)
+
+-- m' is m with the bytes y put in at this boundary
+pub record PutThere (y : List ℕ) {j k : Kind} {m : List ℕ} (p : Boundary j k m) (m' : List ℕ) : Type 0 where
+  pub at : PutAt y j k m m'
+  pub there : boundaryOf at ≡ p
+
+pub record Taken (y : List ℕ) {j k : Kind} {m : List ℕ} (p : Boundary j k m) : Type 0 where
   pub message : List ℕ
-  pub at : PutAt y j k m message
-  pub long : length message ≤ length m + length y + 20 * d
+  pub put : PutThere y p message
+  pub long : length message ≤ length m + length y + 20 * around p

@@ -60,9 +60,9 @@ module _ (R : Replaces) where
 -- there is one at every boundary -------------------------------------------------------------------------------------------
 
 -- any bytes go in there; the lengths fit where the message does
-pub boundary-takes : {j k : Kind} {m : List ℕ} (y : List ℕ) (p : Boundary j k m) → length m + length y + 20 * around p < 2 ^ 64 → Taken y j k m (around p)
+pub boundary-takes : {j k : Kind} {m : List ℕ} (y : List ℕ) (p : Boundary j k m) → length m + length y + 20 * around p < 2 ^ 64 → Taken y p
 boundary-takes y (here a r e) l =
-    record { message = a ++ (y ++ r); at = PutAt.here a r e; long = omega (arith, length-append a (y ++ r), length-append y r, length-append a r) }
+    record { message = a ++ (y ++ r); put = record { at = PutAt.here a r e; there = refl }; long = omega (arith, length-append a (y ++ r), length-append y r, length-append a r) }
 boundary-takes y (inside {x = x} a r e n k' b h g p) l =
     let all : (z : List ℕ) → length (a ++ (z ++ r)) ≡ length a + (length z + length r) =
     λ z. length-append a (z ++ r) ∙ ap (λ i. length a + i) (length-append z r) in
@@ -71,7 +71,7 @@ boundary-takes y (inside {x = x} a r e n k' b h g p) l =
     let o = framed-other (t .message) h (omega (arith, all x, t .long)) in
     record {
       message = a ++ (o .0 ++ r);
-      at = PutAt.inside a r e n k' b (t .message) h (o .1) g (t .at);
+      put = record { at = PutAt.inside a r e n k' b (t .message) h (o .1) g (t .put .at); there = ap (λ q. Boundary.inside a r e n k' b h g q) (t .put .there) };
       long = longer (length a) (length x) (length (o .0)) (length r) (length b) (length (t .message)) (around p) (length y) (all x) (all (o .0)) (t .long) (o .2) s;
     }
   where

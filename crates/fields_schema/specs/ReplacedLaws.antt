@@ -325,35 +325,52 @@ bytes-alone k n b h = go (ruleOf k n) h
     go (Single f) h = by f h
     go (Repeated f) h = by f h
 
--- the bytes that count
-pub replace-bytes : (R : Replaces) (k : Kind) (n : ℕ) (m b b' : List ℕ) {t : Tree} → onceNumbers k ≡ [] → Has Bytes (ruleOf k n) → listed k m ≡ some t → rawAt n t ≡ some b
-    → R k n b b' → length b' < 2 ^ 64 → Replaced R k n b b' m t
-replace-bytes R k n m b b' {t} plain h s q w l =
-    let x = last-of (λ t. rawAt n t) (raws-last n) k plain m s q in
-    go x (x .one) (x .framed) (own (x .one) (x .bytes) (framed-said k (x .bytes) (alone (x .bytes) (x .framed))) (x .own-says) (x .found))
-  where
-    own : (f : Field) (y : List ℕ) {u : Tree} → listed k y ≡ said k (f ∷ []) → listed k y ≡ some u → rawAt n u ≡ some b → (f ≡ field n (vlen b)) × (u ≡ raw n b done)
-    own (field i v) y e r z = own-bytes k n i v h (sym e ∙ r) z
+-- the last field of bytes
+module _ (k : Kind) (n : ℕ) (m b : List ℕ) {t : Tree} (plain : onceNumbers k ≡ []) (h : Has Bytes (ruleOf k n)) (x : Last (λ t. rawAt n t) k m t b) where
+  own : (f : Field) (y : List ℕ) {u : Tree} → Framed f y → listed k y ≡ some u → rawAt n u ≡ some b → (f ≡ field n (vlen b)) × (u ≡ raw n b done)
+  own (field i v) y f r z = own-bytes k n i v h (sym (framed-said k y (alone y f)) ∙ r) z
 
-    go : (x : Last (λ t. rawAt n t) k m t b) (f : Field) → Framed f (x .bytes) → (f ≡ field n (vlen b)) × (x .own ≡ raw n b done) → Replaced R k n b b' m t
-    go x f i (e, z) =
-        let g = held-by f i e in
-        let o = framed-other b' g l in
-        let r : rawAt n (raw n b' done) ≡ some b' = ap (λ t. guard t b') (eq-eqb n n refl) in
-        let u = framed-said k (o .0) (alone (o .0) (o .1)) in
-        record {
-          message = x .before ++ (o .0 ++ x .after);
-          tree = join (x .first) (join (raw n b' done) (x .rest));
-          put = subst (λ y. PutIn R k 0 y (x .before ++ (o .0 ++ x .after))) (sym (x .split)) (fields-stay R (x .before) (x .whole) (PutIn.replaced n b b' g (o .1) h w (PutIn.same k (x .after))));
-          says =
-              merge-plain k (x .before) (o .0 ++ x .after) plain (x .first-says)
-              (merge-plain k (o .0) (x .after) plain (u ∙ bytes-alone k n b' h) (x .rest-says));
-          bytes = last-found (raws-last n) (x .first) (raw n b' done) (x .rest) r (x .none-later);
-          ints = λ i. alike (ints-last i) (x .first) (x .own) (raw n b' done) (x .rest) (ap (intAt i) (sym z)) ∙ ap (intAt i) (x .is);
-          subs = λ i. subs-alike i (x .first) (x .own) (raw n b' done) (x .rest) (ap (subAt i) (sym z)) ∙ ap (subAt i) (x .is);
-          long =
-              omega (arith, ap length (x .split), three-long (x .before) (x .bytes) (x .after), three-long (x .before) (o .0) (x .after), o .2, framed-length g);
-        }
+  own-field : (x .one ≡ field n (vlen b)) × (x .own ≡ raw n b done)
+  own-field = own (x .one) (x .bytes) (x .framed) (x .own-says) (x .found)
+
+  own-holds : Holds n b (x .bytes)
+  own-holds = held-by (x .one) (x .framed) (own-field .0)
+
+  own-length : length b ≤ length m
+  own-length = omega (arith, ap length (x .split), three-long (x .before) (x .bytes) (x .after), framed-length own-holds)
+
+  -- with others in its place
+  other-bytes : (R : Replaces) (b' y : List ℕ) → R k n b b' → Holds n b' y → length y ≤ 20 + length b' → Replaced R k n b b' m t
+  other-bytes R b' y w g l =
+      record {
+        message = x .before ++ (y ++ x .after);
+        tree = join (x .first) (join (raw n b' done) (x .rest));
+        put =
+            subst (λ l. PutIn R k 0 l (x .before ++ (y ++ x .after))) (sym (x .split))
+            (fields-stay R (x .before) (x .whole) (PutIn.replaced n b b' own-holds g h w (PutIn.same k (x .after))));
+        says =
+            merge-plain k (x .before) (y ++ x .after) plain (x .first-says)
+            (merge-plain k y (x .after) plain (framed-said k y (alone y g) ∙ bytes-alone k n b' h) (x .rest-says));
+        bytes = last-found (raws-last n) (x .first) (raw n b' done) (x .rest) (ap (λ t. guard t b') (eq-eqb n n refl)) (x .none-later);
+        ints = λ i. alike (ints-last i) (x .first) (x .own) (raw n b' done) (x .rest) (ap (intAt i) (sym (own-field .1))) ∙ ap (intAt i) (x .is);
+        subs = λ i. subs-alike i (x .first) (x .own) (raw n b' done) (x .rest) (ap (subAt i) (sym (own-field .1))) ∙ ap (subAt i) (x .is);
+        long = omega (arith, ap length (x .split), three-long (x .before) (x .bytes) (x .after), three-long (x .before) y (x .after), framed-length own-holds);
+      }
+
+module _ (k : Kind) (n : ℕ) (m b : List ℕ) {t : Tree} (plain : onceNumbers k ≡ []) (h : Has Bytes (ruleOf k n)) (s : listed k m ≡ some t) (q : rawAt n t ≡ some b) where
+  -- bytes that count are no longer than the message
+  pub found-length : length b ≤ length m
+  found-length = own-length k n m b plain h (last-of (λ t. rawAt n t) (raws-last n) k plain m s q)
+
+  -- and can be others
+  pub replace-bytes : (R : Replaces) (b' : List ℕ) → R k n b b' → length b' < 2 ^ 64 → Replaced R k n b b' m t
+  replace-bytes R b' w l = go (last-of (λ t. rawAt n t) (raws-last n) k plain m s q)
+    where
+      by : (x : Last (λ t. rawAt n t) k m t b) → (y : List ℕ) × Framed (field n (vlen b')) y × (length y ≤ 20 + length b') → Replaced R k n b b' m t
+      by x (y, g, l) = other-bytes k n m b plain h x R b' y w g l
+
+      go : Last (λ t. rawAt n t) k m t b → Replaced R k n b b' m t
+      go x = by x (framed-other b' (own-holds k n m b plain h x) l)
 
 -- those of the messages inside
 module _ (R : Replaces) (k : Kind) (n : ℕ) (k' : Kind) (i : ℕ) (plain : onceNumbers k ≡ []) (plain' : onceNumbers k' ≡ []) (h : Has (Nested k') (ruleOf k n)) (h' : Has Bytes (ruleOf k' i)) where
@@ -376,37 +393,69 @@ module _ (R : Replaces) (k : Kind) (n : ℕ) (k' : Kind) (i : ℕ) (plain : once
       alike (within-last n look l) t (sub n v done) (sub n v' done) rest
       (ap (λ o. thenO o look) (sub-alone v') ∙ e ∙ sym (ap (λ o. thenO o look) (sub-alone v)))
 
+  module _ (m b b' : List ℕ) {t u : Tree} (q : subAt n t ≡ some u) (x : Last within k m t b) (v : Tree) (o : OwnMessage k' n (x .one) (x .own) v) where
+    own-held : Holds n (o .bytes) (x .bytes)
+    own-held = held-by (x .one) (x .framed) (o .holds)
+
+    own-long : length (o .bytes) ≤ length m
+    own-long = omega (arith, ap length (x .split), three-long (x .before) (x .bytes) (x .after), framed-length own-held)
+
+    -- its bytes replaced, y for the field that holds it, and so the tree w of the message inside
+    module _ (r : Replaced R k' i b b' (o .bytes) v) (y : List ℕ) (g : Holds n (r .message) y) (l : length y ≤ 20 + length (r .message)) (w : Tree) where
+      abbrev own' : Tree
+      own' = sub n (r .tree) done
+
+      own-was : join (x .first) (join (sub n v done) (x .rest)) ≡ t
+      own-was = ap (λ a. join (x .first) (join a (x .rest))) (sym (o .is)) ∙ x .is
+
+      found-again : within (join (x .first) (join own' (x .rest))) ≡ some b'
+      found-again = last-found within-counts (x .first) own' (x .rest) (ap (λ o. thenO o (λ u. rawAt i u)) (sub-alone (r .tree)) ∙ r .bytes) (x .none-later)
+
+      other-inside : subAt n (join (x .first) (join own' (x .rest))) ≡ some w → rawAt i w ≡ some b' → ReplacedInside R k n i b b' m t u
+      other-inside is bytes =
+          record {
+            message = x .before ++ (y ++ x .after);
+            tree = join (x .first) (join own' (x .rest));
+            inner = w;
+            put =
+                subst (λ l. PutIn R k 0 l (x .before ++ (y ++ x .after))) (sym (x .split))
+                (fields-stay R (x .before) (x .whole) (PutIn.inside n k' (o .bytes) (r .message) own-held g h (r .put) (PutIn.same k (x .after))));
+            says =
+                merge-plain k (x .before) (y ++ x .after) plain (x .first-says)
+                (merge-plain k y (x .after) plain (one-message k n k' (r .message) y h g ∙ ap (mapO (λ u. sub n u done)) (r .says)) (x .rest-says));
+            is = is;
+            bytes = bytes;
+            inner-ints = λ j.
+                ap (λ o. thenO o (λ u. intAt j u)) (sym is) ∙ inside-alike (λ u. intAt j u) (ints-last j) (x .first) v (r .tree) (x .rest) (r .ints j)
+                ∙ ap (λ t. thenO (subAt n t) (λ u. intAt j u)) own-was ∙ ap (λ o. thenO o (λ u. intAt j u)) q;
+            ints = λ j. alike (ints-last j) (x .first) (sub n v done) own' (x .rest) refl ∙ ap (intAt j) own-was;
+            raws = λ j. alike (raws-last j) (x .first) (sub n v done) own' (x .rest) refl ∙ ap (rawAt j) own-was;
+            long =
+                omega (arith, ap length (x .split), three-long (x .before) (x .bytes) (x .after), three-long (x .before) y (x .after), r .long, framed-length own-held);
+          }
+
   pub replace-inside : (m b b' : List ℕ) {t u : Tree} → listed k m ≡ some t → subAt n t ≡ some u → rawAt i u ≡ some b → R k' i b b' → length m + length b' + 20 < 2 ^ 64
       → ReplacedInside R k n i b b' m t u
-  replace-inside m b b' {t} {u} s q z w l =
-      let x = last-of within within-counts k plain m s (ap (λ o. thenO o (λ u. rawAt i u)) q ∙ z) in
-      let y = then-some (subAt n (x .own)) (λ u. rawAt i u) (x .found) in
-      let o = own-inside (x .one) (x .bytes) (x .framed) (x .own-says) (y .1) in
-      let g = held-by (x .one) (x .framed) (o .holds) in
-      let c : length (o .bytes) ≤ length m = omega (arith, ap length (x .split), three-long (x .before) (x .bytes) (x .after), framed-length g) in
-      let r = replace-bytes R k' i (o .bytes) b b' plain' h' (o .says) (y .2) w (omega arith) in
-      let e = framed-other (r .message) g (omega (arith, r .long)) in
-      let own' = sub n (r .tree) done in
-      let whole : join (x .first) (join (sub n (y .0) done) (x .rest)) ≡ t = ap (λ a. join (x .first) (join a (x .rest))) (sym (o .is)) ∙ x .is in
-      let own-said : listed k (e .0) ≡ some own' = one-message k n k' (r .message) (e .0) h (e .1) ∙ ap (mapO (λ u. sub n u done)) (r .says) in
-      let f : within (join (x .first) (join own' (x .rest))) ≡ some b' =
-      last-found within-counts (x .first) own' (x .rest) (ap (λ o. thenO o (λ u. rawAt i u)) (sub-alone (r .tree)) ∙ r .bytes) (x .none-later) in
-      let v = then-some (subAt n (join (x .first) (join own' (x .rest)))) (λ u. rawAt i u) f in
-      record {
-        message = x .before ++ (e .0 ++ x .after);
-        tree = join (x .first) (join own' (x .rest));
-        inner = v .0;
-        put =
-            subst (λ y. PutIn R k 0 y (x .before ++ (e .0 ++ x .after))) (sym (x .split))
-            (fields-stay R (x .before) (x .whole) (PutIn.inside n k' (o .bytes) (r .message) g (e .1) h (r .put) (PutIn.same k (x .after))));
-        says = merge-plain k (x .before) (e .0 ++ x .after) plain (x .first-says) (merge-plain k (e .0) (x .after) plain own-said (x .rest-says));
-        is = v .1;
-        bytes = v .2;
-        inner-ints = λ j.
-            ap (λ o. thenO o (λ u. intAt j u)) (sym (v .1)) ∙ inside-alike (λ u. intAt j u) (ints-last j) (x .first) (y .0) (r .tree) (x .rest) (r .ints j)
-            ∙ ap (λ t. thenO (subAt n t) (λ u. intAt j u)) whole ∙ ap (λ o. thenO o (λ u. intAt j u)) q;
-        ints = λ j. alike (ints-last j) (x .first) (sub n (y .0) done) own' (x .rest) refl ∙ ap (intAt j) whole;
-        raws = λ j. alike (raws-last j) (x .first) (sub n (y .0) done) own' (x .rest) refl ∙ ap (rawAt j) whole;
-        long =
-            omega (arith, ap length (x .split), three-long (x .before) (x .bytes) (x .after), three-long (x .before) (e .0) (x .after), e .2, r .long, framed-length g);
-      }
+  replace-inside m b b' {t} {u} s q z w l = go (last-of within within-counts k plain m s (ap (λ o. thenO o (λ u. rawAt i u)) q ∙ z))
+    where
+      last : (x : Last within k m t b) (v : Tree) (o : OwnMessage k' n (x .one) (x .own) v) (r : Replaced R k' i b b' (o .bytes) v) (y : List ℕ) (g : Holds n (r .message) y)
+          → length y ≤ 20 + length (r .message) → (a : Tree) × (subAt n (join (x .first) (join (sub n (r .tree) done) (x .rest))) ≡ some a) × (rawAt i a ≡ some b')
+          → ReplacedInside R k n i b b' m t u
+      last x v o r y g l (a, is, bytes) = other-inside m b b' q x v o r y g l a is bytes
+
+      held : (x : Last within k m t b) (v : Tree) (o : OwnMessage k' n (x .one) (x .own) v) (r : Replaced R k' i b b' (o .bytes) v)
+          → (y : List ℕ) × Framed (field n (vlen (r .message))) y × (length y ≤ 20 + length (r .message)) → ReplacedInside R k n i b b' m t u
+      held x v o r (y, g, l) =
+          last x v o r y g l (then-some (subAt n (join (x .first) (join (sub n (r .tree) done) (x .rest)))) (λ u. rawAt i u) (found-again m b b' q x v o r y g l v))
+
+      inner : (x : Last within k m t b) (v : Tree) (o : OwnMessage k' n (x .one) (x .own) v) → Replaced R k' i b b' (o .bytes) v → ReplacedInside R k n i b b' m t u
+      inner x v o r = held x v o r (framed-other (r .message) (own-held m b b' q x v o) (omega (arith, r .long, own-long m b b' q x v o)))
+
+      own : (x : Last within k m t b) (v : Tree) → rawAt i v ≡ some b → OwnMessage k' n (x .one) (x .own) v → ReplacedInside R k n i b b' m t u
+      own x v e o = inner x v o (replace-bytes k' i (o .bytes) b plain' h' (o .says) e R b' w (omega arith))
+
+      found : (x : Last within k m t b) → (v : Tree) × (subAt n (x .own) ≡ some v) × (rawAt i v ≡ some b) → ReplacedInside R k n i b b' m t u
+      found x (v, p, e) = own x v e (own-inside (x .one) (x .bytes) (x .framed) (x .own-says) p)
+
+      go : Last within k m t b → ReplacedInside R k n i b b' m t u
+      go x = found x (then-some (subAt n (x .own)) (λ u. rawAt i u) (x .found))

@@ -1,5 +1,5 @@
--- Demand 3: what is put into a message, and the two theorems' statements.
-use Prim.Native.Nat.{ℕ, suc}
+-- Demand 3: what is put into a message, the two theorems' statements, and every place where it can be put in.
+use Prim.Native.Nat.{ℕ, suc, _+_, _*_, _≤_}
 use mathlib.Core.Path.{_≡_}
 use mathlib.Core.Logic.{_⊎_}
 use mathlib.Core.List.{List, _++_}
@@ -7,7 +7,8 @@ use mathlib.Core.Option.{some}
 use lib.ListN.{length}
 use Rattle.fields_schema.specs.FieldNumbers.{Message-commandBytes, HMACauth-hmac}
 use Rattle.fields_schema.specs.Tree.{Tree}
-use Rattle.fields_schema.specs.PutIn.{Nothing, PutIn}
+use Rattle.fields_schema.specs.PutIn.{inSecurity, Nothing, PutIn}
+use Rattle.fields_schema.specs.Boundaries.{Boundary, around, PutThere}
 use Rattle.protocol.specs.Frame.{frame, Fits}
 use Rattle.protocol.specs.Reading.{readMessage, envelope, undecodable, read}
 use Rattle.protocol.specs.Answer.{Device, Outcome, refused, answered, reading, answer}
@@ -31,6 +32,12 @@ SameBut {S} a a' o o' =
     ((n : ℕ) × (o ≡ refused n) × (o' ≡ refused n))
     ⊎ ((reply : List ℕ) × (s : S) × (o ≡ answered reply s a) × (o' ≡ answered reply s a'))
 
+-- the two calls, o and o', are refused with the same number, or both are answered: o taking a bytes, o' as `given`
+abbrev pub RefusedOr : {S : Type 0} → ℕ → Outcome S → Outcome S → Outcome S → Type 0
+RefusedOr {S} a o o' given =
+    ((n : ℕ) × (o ≡ refused n) × (o' ≡ refused n))
+    ⊎ ((reply : List ℕ) × (s : S) × (o ≡ answered reply s a) × (o' ≡ given))
+
 module _ (D : Device) where
   -- signed under the key: the hmac that counts is right for the commandBytes that count
   abbrev pub Signed : List ℕ → List ℕ → Type 0
@@ -45,12 +52,39 @@ module _ (D : Device) where
       → (reading D s m' ≡ read i key t)
       × SameBut (length (frame m v)) (length (frame m' v)) (answer D s out (frame m v ++ rest)) (answer D s out (frame m' v ++ rest'))
 
-  -- the second half
+  -- the second half: refused like the message without them, or INVALID_REQUEST, and the state as it was
   abbrev pub RefusedInsideSecurity : Type 0
   RefusedInsideSecurity =
-      (s : D .State) (out : ℕ) (m m' v rest' : List ℕ) (i : ℕ) (key : List ℕ) (t : Tree) (c : ℕ)
-      → reading D s m ≡ read i key t
+      (s : D .State) (out : ℕ) (m m' v rest rest' : List ℕ) (i : ℕ) (key : List ℕ) (t : Tree) (c : ℕ)
+      → reading D s m ≡ read i key t → Fits m v
       → Edited (suc c) m m' → Signed key m' → Fits m' v
-      → ((n : ℕ) → answer D s out (frame m' v ++ rest') ≡ refused n → ⊥)
       → (reading D s m' ≡ undecodable i key)
-      × (answer D s out (frame m' v ++ rest') ≡ answered (replyBytes (D .invalid s i key)) s (length (frame m' v)))
+      × RefusedOr (length (frame m v)) (answer D s out (frame m v ++ rest)) (answer D s out (frame m' v ++ rest'))
+      (answered (replyBytes (D .invalid s i key)) s (length (frame m' v)))
+
+-- a field boundary of the whole message m, of a message of kind j in it: "before, between and after the fields of Message, each HMACauth, the Command in the
+-- commandBytes that count and each listed m in it at any depth"
+pub data Place (m : List ℕ) : Kind → Type 0 where
+  message : Boundary Message Message m → Place m Message
+  auth : Boundary HmacAuth Message m → Place m HmacAuth
+  command : {j : Kind} (i : ℕ) (sig b : List ℕ) → readMessage m ≡ some (envelope i sig b) → Boundary j Command b → Place m j
+
+-- how many messages stand around it, of those that count
+abbrev pub deep : {m : List ℕ} {j : Kind} → Place m j → ℕ
+deep (message p) = around p
+deep (auth p) = around p
+deep (command i sig b e p) = around p
+
+-- m' is m with the bytes y put in at that place; if that is in the commandBytes that count, m' has others that count
+abbrev pub PutAtPlace : List ℕ → {m : List ℕ} {j : Kind} → Place m j → List ℕ → Type 0
+PutAtPlace y (message p) m' = PutThere y p m'
+PutAtPlace y (auth p) m' = PutThere y p m'
+PutAtPlace y (command i sig b e p) m' = (sig' b' : List ℕ) × (readMessage m' ≡ some (envelope i sig' b')) × PutThere y p b'
+
+-- m with the bytes y put in there, signed again under the key, and how much longer it is at most
+pub record EditedAt (D : Device) (key y : List ℕ) {m : List ℕ} {j : Kind} (p : Place m j) : Type 0 where
+  pub message : List ℕ
+  pub put : PutAtPlace y p message
+  pub edited : Edited (inSecurity j) m message
+  pub signed : Signed D key message
+  pub long : length message ≤ length m + length y + 20 * deep p + 60

@@ -25,9 +25,9 @@ use Rattle.protocol.specs.Frame as framing
 use Rattle.protocol.specs.Frame.{frame}
 use Rattle.protocol.specs.State.{State}
 use Rattle.protocol.specs.Reading.{securityOnce, decodes, Envelope, envelope, envelopeOf, readMessage, read, undecodable, decoded}
-use Rattle.protocol.specs.Answer.{refused, answered, reading}
-use Rattle.protocol.specs.Demand.{Free, Edited, SameBut, Signed}
-use Rattle.protocol.specs.Demand3StepLaws.{reads}
+use Rattle.protocol.specs.Answer.{answered, reading}
+use Rattle.protocol.specs.Demand.{Free, Edited, SameBut, RefusedOr, Signed}
+use Rattle.protocol.specs.FirstStepsLaws.{reads}
 use Rattle.protocol.specs.Reply.{signedTree, signedReply}
 use Rattle.protocol.specs.Box as the
 use Rattle.protocol.specs.Box.{box, answers}
@@ -53,7 +53,7 @@ module _ (key b m : List ℕ) (is-read : readMessage m ≡ some (envelope 1 (hma
   known : (s : State) → 1 ≤ length key → length key ≤ 64 → s .device ≡ tableBytes (hostTable key) → reading box s m ≡ decoded 1 key (decodes b)
   unfolding placeOf findFrom aclOf
   known s least most e =
-      reads hmac (λ i. mapO (λ a. a .key) (the.aclOf s i)) m is-read
+      reads box s m is-read
       (ap (λ t. mapO (λ a. a .key) (the.aclAt s (placeOf t 1))) (ap tableOf e ∙ table-back (hostTable key) (host-good key least most))
       ∙ ap (λ t. some (aclOf t 0 .key)) (ap tableOf e ∙ table-back (hostTable key) (host-good key least most))) refl
 
@@ -285,13 +285,13 @@ module _ (s : State) (key : List ℕ) (least : 1 ≤ length key) (most : length 
       (known key plain (message key plain) (message-read key plain (omega arith)) s least most formatted ∙ ap (decoded 1 key) says-plain) (in-limits plain (omega arith))
       (edited key plain newer (omega arith) (omega arith) put-newer) (signed key newer (omega arith)) (fuller-limits newer (omega arith))
 
-  pub refused-inside-shown : ((n : ℕ) → answers s out (frame (fuller key stranger) v ++ rest') ≡ refused n → ⊥)
-      → (reading box s (fuller key stranger) ≡ undecodable 1 key)
-      × (answers s out (frame (fuller key stranger) v ++ rest') ≡ answered (signedReply 1 key (invalidTree (s .connection .number)) []) s (length (frame (fuller key stranger) v)))
-  refused-inside-shown h =
-      refused-inside-security-reply s out (message key securing) (fuller key stranger) v rest' 1 key security-tree 0
-      (known key securing (message key securing) (message-read key securing (omega arith)) s least most formatted ∙ ap (decoded 1 key) says-securing)
-      (edited key securing stranger (omega arith) (omega arith) put-stranger) (signed key stranger (omega arith)) (fuller-limits stranger (omega arith)) h
+  pub refused-inside-shown : (reading box s (fuller key stranger) ≡ undecodable 1 key)
+      × RefusedOr (length (frame (message key securing) v)) (answers s out (frame (message key securing) v ++ rest)) (answers s out (frame (fuller key stranger) v ++ rest'))
+      (answered (signedReply 1 key (invalidTree (s .connection .number)) []) s (length (frame (fuller key stranger) v)))
+  refused-inside-shown =
+      refused-inside-security-reply s out (message key securing) (fuller key stranger) v rest rest' 1 key security-tree 0
+      (known key securing (message key securing) (message-read key securing (omega arith)) s least most formatted ∙ ap (decoded 1 key) says-securing) (in-limits securing (omega arith))
+      (edited key securing stranger (omega arith) (omega arith) put-stranger) (signed key stranger (omega arith)) (fuller-limits stranger (omega arith))
 
   -- header and body sent twice
   pub command-twice-shown : (reading box s (fuller key newer-twice) ≡ read 1 key tree-twice)

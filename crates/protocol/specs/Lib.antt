@@ -12,6 +12,7 @@ pub mod Reply
 pub mod Answer
 pub mod Box
 pub mod Format
+pub mod FirstSteps
 pub mod Demand
 pub mod InvalidTree
 pub mod Words
@@ -29,6 +30,8 @@ pub mod FaultLaws
 pub mod ReplyBackLaws
 pub mod Sendable
 pub mod ResultLaws
+pub mod FirstStepsLaws
+pub mod EditedLaws
 pub mod Demand3StepLaws
 -- Theorems: the demands, then what document 01 and the change requests say, each with the definitions that it alone needs.
 pub mod Demand3Laws
