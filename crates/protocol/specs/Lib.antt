@@ -17,8 +17,9 @@ pub mod Demand
 pub mod InvalidTree
 pub mod Words
 pub mod ReplyFits
-pub mod Readable
 pub mod PartsRead
+pub mod ReplyContent
+pub mod Readable
 pub mod Worked
 pub mod Start
 -- Laws for proofs.
@@ -28,6 +29,7 @@ pub mod WordLaws
 pub mod FaultCode
 pub mod FaultLaws
 pub mod ReplyBackLaws
+pub mod PartsBackLaws
 pub mod Sendable
 pub mod ResultLaws
 pub mod FirstStepsLaws
@@ -38,13 +40,11 @@ pub mod Demand3Laws
 pub mod Demand3Example
 pub mod Demand3ExampleLaws
 pub mod ReadBackLaws
-pub mod PartsBackLaws
 pub mod ReplySizeLaws
 pub mod WorkedLaws
 pub mod FrameStartLaws
 pub mod CallRefusalLaws
 pub mod HmacFailureLaws
-pub mod JudgedReplyLaws
 pub mod Passes
 pub mod AcceptedLaws
 pub mod PutLaws

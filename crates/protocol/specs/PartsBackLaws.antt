@@ -1,4 +1,4 @@
--- What a reader of a reply finds in its command: the connection, the sequence, the type, the code and the body, each by a look-up.
+-- What a reader finds in a reply, each by a look-up, is what the steps gave.
 use Prim.Native.Nat.{ℕ, _+_}
 use native.Mathlib.Omega.{arith}
 use mathlib.Core.Path.{_≡_, refl, ap, ap₂, _∙_}
@@ -11,9 +11,19 @@ use Rattle.fields_encoding.specs.LookUpLaws.{raw-here, int-past, int-here, intO
 use Rattle.log_readings.specs.Lent.{Sample}
 use Rattle.base_definitions.specs.Lists.{mapL}
 use Rattle.base_definitions.specs.Options.{orElse}
-use Rattle.protocol.specs.Judge.{Capacity, Log, ReplyBody, bare, keyValue, range, log}
-use Rattle.protocol.specs.Reply.{sampleTree, capacityTree, limitsTree, logTree, headerTree, bodyTree, statusTree, commandTree, closingCommand}
-use Rattle.protocol.specs.PartsRead.{entryRead, bitsOf, sampleRead, capacityRead, logRead, bodyRead, Found}
+use Rattle.access_record.specs.Table as access
+use Rattle.protocol.specs.StatusCode.{HMAC_FAILURE, INVALID_REQUEST}
+use Rattle.protocol.specs.State.{State}
+use Rattle.protocol.specs.Command.{commandOf}
+use Rattle.protocol.specs.Operation.{INVALID_MESSAGE_TYPE, askedBy, replyType}
+use Rattle.protocol.specs.Judge.{Capacity, Log, ReplyBody, bare, keyValue, range, log, judge}
+use Rattle.protocol.specs.Reading.{Reading, closing, undecodable, read}
+use Rattle.protocol.specs.Reply.{sampleTree, capacityTree, limitsTree, logTree, headerTree, bodyTree, statusTree, commandTree, signedBy, closingWith}
+use Rattle.protocol.specs.Answer.{respond}
+use Rattle.protocol.specs.Box.{box, aclOf, sequenceOf, typeOf, judged, decide, messageIn}
+use Rattle.protocol.specs.PartsRead.{entryRead, bitsOf, sampleRead, capacityRead, logRead, bodyRead}
+use Rattle.protocol.specs.ReplyContent.{closingContent, judgedBy, contentOf}
+use Rattle.protocol.specs.Readable.{Gives}
 
 -- a keyValue of which parts are left out says the same
 entry-found : (k v g : List ℕ) (a : ℕ) → entryRead (rawIf 3 k (rawIf 4 v (rawIf 5 g (intIf 6 a done)))) ≡ keyValue k v g a
@@ -100,18 +110,36 @@ header-found h (keyValue k v g a) code = refl
 header-found h (range ks) code = refl
 header-found h (log g) code = refl
 
-pub parts-found : (c : ℕ) (a : Option ℕ) (y : ℕ) (b : ReplyBody) (code : ℕ) → Found (commandTree c a y b code) c a (some y) b code
-parts-found c a y b code =
+signed-gives : (i : ℕ) (key : List ℕ) (c : ℕ) (a : Option ℕ) (y : ℕ) (b : ReplyBody) (code : ℕ) (v : List ℕ)
+    → Gives c (signedBy i key (commandTree c a y b code) v) (record { identity = some i; key = some key; ackSequence = a; type = some y; body = b; code = code; value = v })
+signed-gives i key c a y b code v =
     let h = header-found (headerTree c a y) b code in
     let t = intO 6 a (int 7 y done) in
     record {
-      connection-found = ap (λ o. thenO o (λ u. intAt 3 u)) h ∙ int-here 3 c t (intO-past 3 6 a (int 7 y done) refl);
-      ack-found = ap (λ o. thenO o (λ u. intAt 6 u)) h ∙ int-past 6 3 c t refl ∙ intO-here 6 a (int 7 y done) refl;
-      type-found = ap (λ o. thenO o (λ u. intAt 7 u)) h ∙ int-past 7 3 c t refl ∙ intO-past 7 6 a (int 7 y done) refl;
-      body-found = body-found b code;
-      code-found = code-found b code;
+      identity = refl;
+      signature = refl;
+      connectionID = ap (λ o. thenO o (λ u. intAt 3 u)) h ∙ int-here 3 c t (intO-past 3 6 a (int 7 y done) refl);
+      ackSequence = ap (λ o. thenO o (λ u. intAt 6 u)) h ∙ int-past 6 3 c t refl ∙ intO-here 6 a (int 7 y done) refl;
+      type = ap (λ o. thenO o (λ u. intAt 7 u)) h ∙ int-past 7 3 c t refl ∙ intO-past 7 6 a (int 7 y done) refl;
+      body = body-found b code;
+      code = code-found b code;
+      value = refl;
     }
 
 -- "Closing replies: …; header 3 and status only"
-pub closing-found : (c code : ℕ) → Found (closingCommand c code) c none none bare code
-closing-found c code = record { connection-found = refl; ack-found = refl; type-found = refl; body-found = refl; code-found = refl }
+closing-gives : (c code : ℕ) → Gives c (closingWith c code) (closingContent code)
+closing-gives c code =
+    record { identity = refl; signature = refl; connectionID = refl; ackSequence = refl; type = refl; body = refl; code = refl; value = refl }
+
+-- the reply to what is read gives what the steps gave
+pub reply-gives : (s : State) (v : List ℕ) (r : Reading) → Gives (s .connection .number) (messageIn (respond box s v r)) (contentOf s v r)
+unfolding decide
+reply-gives s v (closing code) = closing-gives (s .connection .number) code
+reply-gives s v (undecodable i key) = signed-gives i key (s .connection .number) none INVALID_MESSAGE_TYPE bare INVALID_REQUEST []
+reply-gives s v (read i key t) = go (aclOf s i)
+  where
+    go : (o : Option access.Acl) → Gives (s .connection .number) (messageIn (judged s i key (commandOf t) v o)) (judgedBy s i key (commandOf t) v o)
+    go none = closing-gives (s .connection .number) HMAC_FAILURE
+    go (some a) =
+        let j = judge s a (commandOf t) v in
+        signed-gives i key (s .connection .number) (sequenceOf (commandOf t .header)) (replyType (askedBy (typeOf (commandOf t .header)))) (j .body) (j .code) (j .value)

@@ -1,9 +1,8 @@
--- What a reader of a reply finds in its command: the connection, the sequence, the type, the code and the body, each by a look-up.
+-- What a reader finds in a reply, each by a look-up: the identity and the hmac, the connection, the sequence, the type, the body and the code.
 use Prim.Native.Nat.{ℕ, _+_, _*_}
-use mathlib.Core.Path.{_≡_}
 use mathlib.Core.List.{List, []}
 use mathlib.Core.Option.{Option, none, some}
-use Rattle.fields_schema.specs.FieldNumbers.{Command-header, Command-body, Command-status, Header-connectionID, Header-ackSequence, Header-messageType}
+use Rattle.fields_schema.specs.FieldNumbers.{Message-hmacAuth, HMACauth-identity, HMACauth-hmac, Command-header, Command-body, Command-status, Header-connectionID, Header-ackSequence, Header-messageType}
 use Rattle.fields_schema.specs.FieldNumbers.{Body-keyValue, Body-range, Body-getLog, KeyValue-key, KeyValue-dbVersion, KeyValue-tag, KeyValue-algorithm}
 use Rattle.fields_schema.specs.FieldNumbers.{Range-keys, GetLog-utilizations, GetLog-temperatures, GetLog-capacity, GetLog-limits, Utilization-name}
 use Rattle.fields_schema.specs.FieldNumbers.{Utilization-value, Capacity-nominalCapacityInBytes, Capacity-portionFull, Status-code}
@@ -52,10 +51,22 @@ abbrev pub bodyRead : Option Tree → ReplyBody
 bodyRead none = bare
 bodyRead (some b) = partRead (subAt Body-keyValue b) (subAt Body-range b) (subAt Body-getLog b)
 
--- what a command says as a reply
-pub record Found (t : Tree) (connection : ℕ) (ack type : Option ℕ) (body : ReplyBody) (code : ℕ) : Type 0 where
-  pub connection-found : thenO (subAt Command-header t) (λ h. intAt Header-connectionID h) ≡ some connection
-  pub ack-found : thenO (subAt Command-header t) (λ h. intAt Header-ackSequence h) ≡ ack
-  pub type-found : thenO (subAt Command-header t) (λ h. intAt Header-messageType h) ≡ type
-  pub body-found : bodyRead (subAt Command-body t) ≡ body
-  pub code-found : thenO (subAt Command-status t) (λ s. intAt Status-code s) ≡ some code
+-- in the message of a reply: "HMACauth (the request's identity; hmac under the key that verified the request)"
+abbrev pub identityRead : Tree → Option ℕ
+identityRead t = thenO (subAt Message-hmacAuth t) (λ a. intAt HMACauth-identity a)
+
+abbrev pub hmacRead : Tree → Option (List ℕ)
+hmacRead t = thenO (subAt Message-hmacAuth t) (λ a. rawAt HMACauth-hmac a)
+
+-- in its command: "header 3 (the connection's number), 6, 7; body; status with SUCCESS (1) or the code in field 1"
+abbrev pub connectionRead : Tree → Option ℕ
+connectionRead t = thenO (subAt Command-header t) (λ h. intAt Header-connectionID h)
+
+abbrev pub ackSequenceRead : Tree → Option ℕ
+ackSequenceRead t = thenO (subAt Command-header t) (λ h. intAt Header-ackSequence h)
+
+abbrev pub typeRead : Tree → Option ℕ
+typeRead t = thenO (subAt Command-header t) (λ h. intAt Header-messageType h)
+
+abbrev pub codeRead : Tree → Option ℕ
+codeRead t = thenO (subAt Command-status t) (λ s. intAt Status-code s)

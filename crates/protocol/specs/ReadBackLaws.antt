@@ -1,4 +1,4 @@
--- Demand 2: a reply read back by the field rules for replies gives that answer and nothing else, for every reply that the box gives.
+-- Demand 2: a reply read back by the field rules for replies gives what the steps gave and nothing else, for every reply that the box gives.
 use Prim.Native.Nat.{ℕ, _+_, _^_, _<_}
 use native.Mathlib.Omega.{arith}
 use mathlib.Core.Path.{_≡_, refl, ap, subst}
@@ -34,7 +34,15 @@ use Rattle.protocol.specs.ResultLaws.{judge-sent}
 use Rattle.protocol.specs.ReplyFits.{CodeNamed, TypeFits, bares}
 use Rattle.protocol.specs.ReplyBackLaws.{known-code, known-type, signed-says, closing-says}
 use Rattle.protocol.specs.Reply.{ReplyMessage, closingWith}
-use Rattle.protocol.specs.Readable.{Readable, SaysReply, Replied}
+use Rattle.protocol.specs.ReplyContent.{closingContent, contentOf}
+use Rattle.protocol.specs.PartsBackLaws.{reply-gives}
+use Rattle.protocol.specs.Readable.{SaysReply, Replied}
+
+-- what is read has 64-bit words, and closes with a named code
+abbrev Readable : Reading → Type 0
+Readable (closing code) = CodeNamed code
+Readable (undecodable i key) = i < 2 ^ 64
+Readable (read i key t) = (i < 2 ^ 64) × Words t
 
 identity-word : (t : Tree) {i : ℕ} {sig c : List ℕ} → Words t → envelopeOf t ≡ some (envelope i sig c) → i < 2 ^ 64
 identity-word t {i} {sig} {c} w e = go (isOne (intAt 4 t)) (subAt 5 t) (rawAt 7 t) (λ u q. sub-words-at 5 t w q) e
@@ -87,7 +95,7 @@ module _ (keyOf : ℕ → Option (List ℕ)) where
   opened-readable none f = known-code refl
   opened-readable (some (envelope i sig c)) f = verified-readable i sig c (keyOf i) (f i sig c refl)
 
-  pub readable : (m : List ℕ) → Readable (readingBy hmac keyOf m)
+  readable : (m : List ℕ) → Readable (readingBy hmac keyOf m)
   unfolding readingBy
   readable m = opened-readable (readMessage m) (λ i sig c e. message-word m e)
 
@@ -167,13 +175,23 @@ module _ (s : State) (word : s .connection .number < 2 ^ 64) where
   serve-says n more good e = never (cc)
   serve-says n closes {r} {s'} {k} good e =
       let p = unrefused (readingsGood (s .readings)) (taking n (close s 20)) e in
-      record { message = closingWith (s .connection .number) 20; is = refl; says = closes-says n 20 (known-code refl) r s' k (p .1) }
+      record {
+        message = closingWith (s .connection .number) 20;
+        is = refl;
+        says = closes-says n 20 (known-code refl) r s' k (p .1);
+        content = closingContent 20;
+        by-steps = refl;
+        gives = reply-gives s [] (closing 20);
+      }
   serve-says n (whole m v rest) {r} {s'} {k} good e =
       let p = unrefused (readingsGood (s .readings)) (taking (9 + length m + length v) (respond box s v (reading box s m))) e in
       record {
         message = messageIn (respond box s v (reading box s m));
         is = refl;
         says = respond-says good (p .0) (9 + length m + length v) v (reading box s m) (readable (box .keyOf s) m) r s' k (p .1);
+        content = contentOf s v (reading box s m);
+        by-steps = refl;
+        gives = reply-gives s v (reading box s m);
       }
 
 -- an answered call passed the refusals
@@ -185,8 +203,8 @@ passed false true false t4 o e = never (cc)
 passed false true true true o e = never (cc)
 passed false true true false o e = (refl, e)
 
--- EVERY REPLY: in any lent state whose connection number is a 64-bit word, the reply of an answered call is one whole frame, and its message, its command
--- and its value part are exactly those of the reply that the box gives
+-- EVERY REPLY: in any lent state whose connection number is a 64-bit word, the reply of an answered call is one whole frame that fits the buffer; read by the
+-- field rules for replies it gives the identity, connection, ackSequence, type, body, code and value of the steps, and nothing else
 pub reply-says : (s : State) (out : ℕ) (xs r : List ℕ) (s' : State) (n : ℕ) → s .connection .number < 2 ^ 64 → answers s out xs ≡ answered r s' n
     → Replied s (frameOf xs) r
 unfolding answer
