@@ -7,7 +7,7 @@ use Rattle.fields_wire.specs.Reader.{Got, got}
 use Rattle.fields_wire.specs.Wire.{Value, vlen, Field, field, readField, Framed}
 use Rattle.fields_wire.specs.WireLaws.{steady-field}
 use Rattle.fields_schema.specs.Rules.{ruleOf}
-use Rattle.fields_schema.specs.PutIn.{Has, Holds, inSecurity, Replaces, Nothing, PutIn}
+use Rattle.fields_schema.specs.PutIn.{Has, Holds, inSecurity, Replaces, PutIn}
 use Rattle.fields_schema.specs.declared.Kind.{Kind}
 use Rattle.fields_schema.specs.declared.Form.{Form}
 use Rattle.fields_schema.specs.declared.Form.the-variants.{Bytes, Opaque, Nested}

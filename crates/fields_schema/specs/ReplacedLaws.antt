@@ -1,7 +1,7 @@
 -- The listed bytes that count can be any others.
 use Prim.Native.Nat.{ℕ, _+_, _^_, _≤_, _<_}
 use native.Mathlib.Omega.{arith}
-use mathlib.Core.Path.{_≡_, refl, sym, ap, _∙_, subst, subst₂}
+use mathlib.Core.Path.{_≡_, refl, sym, ap, _∙_, subst}
 use mathlib.Core.Logic.{_⊎_, inl, inr}
 use mathlib.Core.List.{List, [], _∷_, _++_, append-assoc, append-nil}
 use mathlib.Core.Option.{Option, none, some}
@@ -184,14 +184,14 @@ module _ {A : Type 0} (look : Tree → Option A) (l : LastCounts look) (k : Kind
 -- what a field says by itself ------------------------------------------------------------------------------------------------
 
 -- its form, and what the form makes of its value
-record Said1 (k : Kind) (i : ℕ) (v : Value) (t : Tree) : Type 0 where
+record SaidAlone (k : Kind) (i : ℕ) (v : Value) (t : Tree) : Type 0 where
   form : Form
   has : Has form (ruleOf k i)
   content : Content
   is : decode form v ≡ some content
   opens : openOne (λ k b. listed k b) i content done ≡ some t
 
-said-alone : (k : Kind) (i : ℕ) (v : Value) {t : Tree} → said k (field i v ∷ []) ≡ some t → (t ≡ done) ⊎ Said1 k i v t
+said-alone : (k : Kind) (i : ℕ) (v : Value) {t : Tree} → said k (field i v ∷ []) ≡ some t → (t ≡ done) ⊎ SaidAlone k i v t
 unfolding items openAll
 said-alone k i v {t} e = go (ruleOf k i) refl e
   where
@@ -200,14 +200,14 @@ said-alone k i v {t} e = go (ruleOf k i) refl e
     lax false e = cc
 
     by : (f : Form) → Has f (ruleOf k i) → (o : Option Content) → decode f v ≡ o
-        → thenO (thenO (add i [] o) (λ a. some a)) (λ is. openAll (λ k b. listed k b) is) ≡ some t → Said1 k i v t
+        → thenO (thenO (add i [] o) (λ a. some a)) (λ is. openAll (λ k b. listed k b) is) ≡ some t → SaidAlone k i v t
     by f h none d e = nothing-some e
     by f h (some c) d e = record { form = f; has = h; content = c; is = d; opens = e }
 
     of : (f : Form) (r : Rule) → ruleOf k i ≡ r → Has f r → Has f (ruleOf k i)
     of f r u h = subst (λ (r : Rule). Has f r) (sym u) h
 
-    go : (r : Rule) → ruleOf k i ≡ r → thenO (thenO (byRule r (strictOf k) i v []) (λ a. some a)) (λ is. openAll (λ k b. listed k b) is) ≡ some t → (t ≡ done) ⊎ Said1 k i v t
+    go : (r : Rule) → ruleOf k i ≡ r → thenO (thenO (byRule r (strictOf k) i v []) (λ a. some a)) (λ is. openAll (λ k b. listed k b) is) ≡ some t → (t ≡ done) ⊎ SaidAlone k i v t
     go Unlisted u e = inl (lax (strictOf k) e)
     go Refused u e = nothing-some e
     go (Once f) u e = inr (by f (of f (Once f) u refl) (decode f v) refl e)
@@ -248,7 +248,7 @@ own-bytes k n i v {t} {b} h e q = go (said-alone k i v e)
         mapped none o = nothing-some o
         mapped (some s) o = let z : sub i s done ≡ t = cc in nothing-some (ap (rawAt n) z ∙ q)
 
-    go : (t ≡ done) ⊎ Said1 k i v t → (field i v ≡ field n (vlen b)) × (t ≡ raw n b done)
+    go : (t ≡ done) ⊎ SaidAlone k i v t → (field i v ≡ field n (vlen b)) × (t ≡ raw n b done)
     go (inl z) = nothing-some (ap (rawAt n) (sym z) ∙ q)
     go (inr x) = by (x .form) (x .has) (x .content) (x .is) (x .opens)
 
@@ -285,7 +285,7 @@ own-message k n k' i v {t} {u} h e q = go (said-alone k i v e)
             let w1 = w .1 in
             record { bytes = a; holds = cc; says = ap (λ j. listed j a) (sym (r .1)) ∙ l ∙ ap some (w .1); is = cc }
 
-    go : (t ≡ done) ⊎ Said1 k i v t → OwnMessage k' n (field i v) t u
+    go : (t ≡ done) ⊎ SaidAlone k i v t → OwnMessage k' n (field i v) t u
     go (inl z) = nothing-some (ap (subAt n) (sym z) ∙ q)
     go (inr x) = by (x .form) (x .has) (x .content) (x .is) (x .opens)
 

@@ -97,6 +97,13 @@ fuller-twice key a b =
     intField Message-authType HMACAUTH ++ (lenField Message-hmacAuth (added ++ first-auth) ++ (added ++ (lenField Message-hmacAuth (added ++ second-auth key b)
     ++ (lenField Message-commandBytes a ++ (added ++ (lenField Message-commandBytes b ++ []))))))
 
+-- a message whose field 6 has the contents a
+abbrev pub sixTree : List ℕ → List ℕ → Tree
+sixTree key b = int 4 1 (sub 5 (int 1 1 (raw 2 (hmac key b) done)) (raw 6 [] (raw 7 b done)))
+
+abbrev pub message-six : List ℕ → List ℕ → List ℕ → List ℕ
+message-six key a b = intField 4 1 ++ (lenField 5 (auth key b) ++ (lenField 6 a ++ (lenField 7 b ++ [])))
+
 abbrev pub acls : List ℕ
 acls = hold Security-acl (0x08 ∷ 0x01 ∷ hold ACL-scope (0x18 ∷ 0x00 ∷ []))
 

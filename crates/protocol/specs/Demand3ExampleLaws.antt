@@ -34,7 +34,7 @@ use Rattle.protocol.specs.Box.{box, answers}
 use Rattle.protocol.specs.DigestLaws.{hmac-length}
 use Rattle.protocol.specs.Demand3Laws.{same, refused-inside-security-reply}
 use Rattle.protocol.specs.InvalidTree.{invalidTree}
-use Rattle.protocol.specs.Demand3Example.{added, auth, message, fuller, hold, header, key-A, plain, newer, tree, earlier, later, force, plain-twice, newer-twice, tree-twice, twiceTree, message-twice, first-auth, second-auth, fuller-twice, acls, securing, stranger, security-tree}
+use Rattle.protocol.specs.Demand3Example.{added, auth, message, fuller, hold, header, key-A, plain, newer, tree, earlier, later, force, plain-twice, newer-twice, tree-twice, twiceTree, message-twice, first-auth, second-auth, fuller-twice, sixTree, message-six, acls, securing, stranger, security-tree}
 
 added-framed : Framed (field 15 (vint 1)) added
 unfolding readField valueOf varintIn
@@ -253,6 +253,49 @@ edited-twice key a a' b b' h h' g g' p =
     (gives Free Message 7 a a' (number refl) h h' refl (Free.command a a')) (gives Free Message 7 b b' (number refl) g g' refl (Free.command b b')))
     p
 
+-- ---- "the contents of Message 6": the bytes a, which are not looked into, and any others
+
+module _ (key b : List ℕ) (short : length b ≤ 1024) where
+  six-fits : Fits Message (sixTree key b)
+  six-fits =
+      fit-int (number refl) (omega arith) refl
+      (fit-sub HmacAuth (number refl) (omega (arith, hmac-length key b)) refl (auth-fits key b short)
+      (fit-raw (number refl) (omega arith) refl (fit-raw (number refl) (omega arith) refl ends)))
+
+six-around : (R : Replaces) (key a a' b b' : List ℕ) → length a ≤ 1024 → length a' ≤ 1024 → length b ≤ 1024 → length b' ≤ 1024
+    → Passes R HmacAuth 2 (hmac key b) (hmac key b') → Passes R Message 7 b b' → PutIn R Message 0 (message-six key a b) (message-six key a' b')
+unfolding encode
+six-around R key a a' b b' l l' g g' h q =
+    PutIn.keep (field 4 (vint 1)) (int-framed 4 1 (number refl) (omega arith)) (int-framed 4 1 (number refl) (omega arith))
+    (PutIn.inside 5 HmacAuth (auth key b) (auth key b') (len-framed 5 (auth key b) (number refl) (omega (arith, auth-length key b g))) (len-framed 5 (auth key b') (number refl) (omega (arith, auth-length key b' g'))) refl
+    (PutIn.keep (field 1 (vint 1)) (int-framed 1 1 (number refl) (omega arith)) (int-framed 1 1 (number refl) (omega arith)) (h [] [] (PutIn.same HmacAuth [])))
+    (PutIn.hidden 6 a a' (len-framed 6 a (number refl) (omega arith)) (len-framed 6 a' (number refl) (omega arith)) refl (q [] [] (PutIn.same Message []))))
+
+module _ (key a b : List ℕ) (limit : length a ≤ 1024) (short : length b ≤ 1024) where
+  six-read : readMessage (message-six key a b) ≡ some (envelope 1 (hmac key b) b)
+  unfolding readMessage encode
+  six-read =
+      ap (λ o. thenO o (λ t. envelopeOf t))
+      (put-in-same (six-around Nothing key [] a b b (omega arith) limit short short (stays Nothing HmacAuth 2 (hmac key b) (number refl) (omega (arith, hmac-length key b))) (stays Nothing Message 7 b (number refl) short))
+      ∙ read-back (six-fits key b short))
+
+  six-length : length (message-six key a b) ≤ 2200
+  six-length =
+      let i = length-append (intField 4 1) (lenField 5 (auth key b) ++ (lenField 6 a ++ (lenField 7 b ++ []))) in
+      let j = length-append (lenField 5 (auth key b)) (lenField 6 a ++ (lenField 7 b ++ [])) in
+      let k = length-append (lenField 6 a) (lenField 7 b ++ []) in
+      let l = length-append (lenField 7 b) [] in
+      omega (arith, i, j, k, l, auth-length key b short, int-length 4 1 (omega arith) (omega arith), len-length 5 (auth key b) (omega arith) (omega (arith, auth-length key b short)), len-length 6 a (omega arith) (omega arith), len-length 7 b (omega arith) (omega arith))
+
+pub edited-six : (key a a' b b' : List ℕ) {c : ℕ} → length a ≤ 1024 → length a' ≤ 1024 → length b ≤ 1024 → length b' ≤ 1024 → PutIn Nothing Command c b b'
+    → Edited c (message-six key a b) (message-six key a' b')
+edited-six key a a' b b' h h' g g' p =
+    edited-by key b b' (message-six key a b) (message-six key a' b') (six-read key a b h g) (six-read key a' b' h' g')
+    (six-around Free key a a' b b' h h' g g'
+    (gives Free HmacAuth 2 (hmac key b) (hmac key b') (number refl) (omega (arith, hmac-length key b)) (omega (arith, hmac-length key b')) refl (Free.hmac (hmac key b) (hmac key b')))
+    (gives Free Message 7 b b' (number refl) g g' refl (Free.command b b')))
+    p
+
 -- ---- a SECURITY, with a field put into the Security
 
 says-securing : decodes securing ≡ some security-tree
@@ -311,3 +354,14 @@ module _ (s : State) (key : List ℕ) (least : 1 ≤ length key) (most : length 
       (edited-twice key a a' plain newer h h' (omega arith) (omega arith) put-newer)
       (signed-right key newer (fuller-twice key a' newer) (fuller-twice-read key a' newer h' (omega arith)))
       (record { message = omega (arith, fuller-twice-length key a' newer h' (omega arith)); value = limit })
+
+  -- any bytes a' for the contents a of Message 6
+  pub six-shown : (a a' : List ℕ) → length a ≤ 1024 → length a' ≤ 1024 → (reading box s (message-six key a' newer) ≡ read 1 key tree)
+      × SameBut (length (frame (message-six key a plain) v)) (length (frame (message-six key a' newer) v)) (answers s out (frame (message-six key a plain) v ++ rest)) (answers s out (frame (message-six key a' newer) v ++ rest'))
+  six-shown a a' h h' =
+      same s out (message-six key a plain) (message-six key a' newer) v rest rest' 1 key tree
+      (known key plain (message-six key a plain) (six-read key a plain h (omega arith)) s least most formatted ∙ ap (decoded 1 key) says-plain)
+      (record { message = omega (arith, six-length key a plain h (omega arith)); value = limit })
+      (edited-six key a a' plain newer h h' (omega arith) (omega arith) put-newer)
+      (signed-right key newer (message-six key a' newer) (six-read key a' newer h' (omega arith)))
+      (record { message = omega (arith, six-length key a' newer h' (omega arith)); value = limit })

@@ -18,7 +18,6 @@ use Rattle.protocol.specs.FrameLaws.{frame-read}
 use Rattle.protocol.specs.Reading.{sentOnce, decodes, Reading, undecodable, read, decoded}
 use Rattle.protocol.specs.Answer.{Reply, reply, Device, Outcome, refused, answered, taking, unlessRefused, reading, respond, unlessReadings, serve, answer}
 use Rattle.protocol.specs.Demand.{Edited, SameBut, RefusedOr, Signed, UnknownFieldsSame, RefusedInsideSecurity}
-use Rattle.protocol.specs.FirstSteps.{FirstSteps}
 use Rattle.protocol.specs.FirstStepsLaws.{steps-passed, steps-open, reads}
 use Rattle.protocol.specs.EditedLaws.{read-like}
 use Rattle.protocol.specs.Reply.{replyBytes}

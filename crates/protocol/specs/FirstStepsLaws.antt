@@ -4,10 +4,9 @@ use mathlib.Core.Path.{_≡_, refl, sym, ap, _∙_}
 use mathlib.Core.Bool.{Bool, true, false, cond}
 use mathlib.Core.List.{List, []}
 use mathlib.Core.Option.{Option, none, some}
-use lib.Dec.{eqb}
 use borrow.Author.Tests.{eqb-true}
 use Rattle.fields_schema.specs.Tree.{thenO, guard, Tree, intAt, rawAt, subAt, listed}
-use Rattle.fields_schema.specs.OptionLaws.{nothing-some, then-some, guard-some}
+use Rattle.fields_schema.specs.OptionLaws.{then-some, guard-some}
 use Rattle.base_definitions.specs.Lists.{sameBytes}
 use Rattle.base_definitions.specs.Options.{orElse}
 use Rattle.base_definitions.specs.ListLaws.{sameBytes-true, sameBytes-self}
