@@ -15,14 +15,15 @@ pub mod Format
 pub mod FirstSteps
 pub mod Demand
 pub mod InvalidTree
-pub mod Words
-pub mod ReplyFits
+pub mod Says
 pub mod PartsRead
 pub mod ReplyContent
 pub mod Readable
 pub mod Worked
 pub mod Start
 -- Laws for proofs.
+pub mod Words
+pub mod ReplyFits
 pub mod FrameLaws
 pub mod DigestLaws
 pub mod WordLaws

@@ -10,7 +10,7 @@ use Rattle.protocol.specs.Frame.{Framing}
 use Rattle.protocol.specs.State.{State}
 use Rattle.protocol.specs.Reply.{ReplyMessage, replyTree, replyCommand, replyValue}
 use Rattle.protocol.specs.Box.{replyTo}
-use Rattle.protocol.specs.ReplyFits.{Says}
+use Rattle.protocol.specs.Says.{Says}
 use Rattle.protocol.specs.PartsRead.{bodyRead, identityRead, hmacRead, connectionRead, ackSequenceRead, typeRead, codeRead}
 use Rattle.protocol.specs.ReplyContent.{ReplyContent, contentTo}
 

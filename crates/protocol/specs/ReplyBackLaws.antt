@@ -27,7 +27,8 @@ use Rattle.base_definitions.specs.Lists.{mapL}
 use Rattle.protocol.specs.Judge.{Log}
 use Rattle.protocol.specs.DigestLaws.{hmac-length}
 use Rattle.protocol.specs.Reply.{sampleTree, capacityTree, limitsTree, logTree, headerTree, bodyTree, statusTree, commandTree, signedTree, closingCommand, closingTree, signedReply, closingReply}
-use Rattle.protocol.specs.ReplyFits.{CodeNamed, TypeFits, ShortNames, LogFits, BodyFits, bares, keyValues, ranges, logs, Says, InRange}
+use Rattle.protocol.specs.ReplyFits.{CodeNamed, TypeFits, ShortNames, LogFits, BodyFits, bares, keyValues, ranges, logs, InRange}
+use Rattle.protocol.specs.Says.{Says}
 
 both-true : (s t : Bool) → (s && t) ≡ true → (s ≡ true) × (t ≡ true)
 both-true true t h = (refl, h)

@@ -1,17 +1,14 @@
--- What reply bytes say, read by the field rules for replies; and the parts of a reply that are in range.
+-- The parts of a reply that are in range.
 use Prim.Native.Nat.{ℕ, _^_, _≤_, _<_}
 use mathlib.Core.Path.{_≡_}
 use mathlib.Core.Bool.{true}
 use mathlib.Core.List.{List, [], _∷_}
 use mathlib.Core.Option.{Option, some}
 use lib.ListN.{length}
-use Rattle.fields_schema.specs.FieldNumbers.{Message-commandBytes}
 use Rattle.fields_schema.specs.Rules.{namesOf}
-use Rattle.fields_schema.specs.Tree.{isInt32, among, Tree, listed, rawAt}
-use Rattle.fields_schema.specs.declared.Kind.the-variants.{Message, ReplyCommand, ReplyBody, Capacity}
+use Rattle.fields_schema.specs.Tree.{isInt32, among}
 use Rattle.fields_schema.specs.declared.Names.the-variants.{StatusCode}
 use Rattle.fields_encoding.specs.Cost.{AtMost}
-use Rattle.protocol.specs.Frame.{frameOf, whole}
 use Rattle.protocol.specs.Judge as judging
 use Rattle.log_readings.specs.Lent.{Sample}
 use Rattle.protocol.specs.Judge.{Log, bare, keyValue, range, log}
@@ -45,18 +42,6 @@ pub data BodyFits : judging.ReplyBody → Type 0 where
   keyValues : {k v g : List ℕ} {a : ℕ} → length k ≤ 64 → length v ≤ 16 → length g ≤ 32 → a ≤ 6 → BodyFits (keyValue k v g a)
   ranges : {ks : List (List ℕ)} → length ks ≤ 32 → AtMost 64 ks → BodyFits (range ks)
   logs : {g : Log} → LogFits g → BodyFits (log g)
-
--- r is one whole frame with the value part; its message says `message`, its commandBytes say `command`; and it is short
-pub record Says (r : List ℕ) (message command : Tree) (value : List ℕ) : Type 0 where
-  -- the message's bytes, the commandBytes
-  pub bytes : List ℕ
-  pub commandBytes : List ℕ
-  pub framed : frameOf r ≡ whole bytes value []
-  pub message-read : listed Message bytes ≡ some message
-  pub carries : rawAt Message-commandBytes message ≡ some commandBytes
-  pub command-read : listed ReplyCommand commandBytes ≡ some command
-  -- it fits every reply buffer that is not refused
-  pub short : length r ≤ 4096
 
 -- the parts of a signed reply, in range
 pub record InRange (identity connection : ℕ) (ack : Option ℕ) (type : ℕ) (body : judging.ReplyBody) (code : ℕ) (value : List ℕ) : Type 0 where
