@@ -1,6 +1,6 @@
 -- Look-ups in trees that are equal but for replaced bytes: equal numbers; bytes in both or in none; messages that are again equal but for them.
 use Prim.Native.Nat.{ℕ}
-use mathlib.Core.Path.{_≡_, refl, sym, ap, _∙_, subst}
+use mathlib.Core.Path.{_≡_, refl, sym, ap, subst}
 use mathlib.Core.List.{List}
 use mathlib.Core.Option.{Option, none, some}
 use mathlib.Core.Bool.{Bool, true, false}
@@ -12,15 +12,11 @@ use Rattle.fields_schema.specs.PutIn.{Has, Replaces, EqualBut}
 use Rattle.fields_schema.specs.declared.Kind.{Kind}
 use Rattle.fields_schema.specs.declared.Form.the-variants.{Nested}
 use Rattle.fields_schema.specs.declared.Rule.{Rule}
-use Rattle.fields_schema.specs.declared.Rule.the-variants.{Unlisted, Refused, Once, Single, Repeated}
+use Rattle.fields_schema.specs.LevelLaws.{one-form}
 use Rattle.fields_schema.specs.EqualBut.{RawsBut, SubsBut}
 
 one-kind : (r : Rule) {j k : Kind} → Has (Nested j) r → Has (Nested k) r → j ≡ k
-one-kind Unlisted h g = absurd h
-one-kind Refused h g = absurd h
-one-kind (Once f) {j} {k} h g = let e : Nested j ≡ Nested k = h ∙ sym g in cc
-one-kind (Single f) {j} {k} h g = let e : Nested j ≡ Nested k = h ∙ sym g in cc
-one-kind (Repeated f) {j} {k} h g = let e : Nested j ≡ Nested k = h ∙ sym g in cc
+one-kind r {j} {k} h g = let e : Nested j ≡ Nested k = one-form r h g in cc
 
 module _ (R : Replaces) where
   pub equal-but-refl : (k : Kind) (t : Tree) → EqualBut R k t t

@@ -8,8 +8,19 @@ use Rattle.fields_wire.specs.Wire.{Value, Field, field, fieldsOf, consO, Framed
 use Rattle.fields_wire.specs.WireLaws.{fields-put}
 use Rattle.fields_schema.specs.Rules.{strictOf, ruleOf}
 use Rattle.fields_schema.specs.Tree.{thenO, Item, byRule, step, items, itemsO}
+use Rattle.fields_schema.specs.PutIn.{Has}
 use Rattle.fields_schema.specs.declared.Kind.{Kind}
-use Rattle.fields_schema.specs.declared.Rule.the-variants.{Unlisted}
+use Rattle.fields_schema.specs.declared.Form.{Form}
+use Rattle.fields_schema.specs.declared.Rule.{Rule}
+use Rattle.fields_schema.specs.declared.Rule.the-variants.{Unlisted, Refused, Once, Single, Repeated}
+
+-- a rule has one form
+pub one-form : (r : Rule) {f g : Form} → Has f r → Has g r → f ≡ g
+one-form Unlisted h i = absurd h
+one-form Refused h i = absurd h
+one-form (Once f) h i = h ∙ sym i
+one-form (Single f) h i = h ∙ sym i
+one-form (Repeated f) h i = h ∙ sym i
 
 pub then-none : {A B : Type 0} (o : Option A) → thenO {B = B} o (λ a. none) ≡ none
 then-none none = refl

@@ -11,7 +11,7 @@ use Rattle.fields_schema.specs.LevelLaws.{then-none}
 use Rattle.fields_schema.specs.declared.Kind.{Kind}
 use Rattle.fields_schema.specs.Merged.{joined, joinAll, isCons}
 
-later-none : {A : Type 0} (a : Option A) → later a none ≡ a
+pub later-none : {A : Type 0} (a : Option A) → later a none ≡ a
 later-none none = refl
 later-none (some a) = refl
 

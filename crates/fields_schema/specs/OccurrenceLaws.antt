@@ -8,7 +8,7 @@ use mathlib.Core.Bool.{Bool, true, false, cond}
 use lib.ListN.{length, length-append}
 use lib.Dec.{leb, eqb}
 use borrow.Author.Tests.{eqb-true, eq-eqb}
-use Rattle.fields_wire.specs.Wire.{Value, vint, v64, vlen, v32, Field, field, fieldsIn, fieldsOf}
+use Rattle.fields_wire.specs.Wire.{Value, vint, v64, vlen, v32, Field, field, fieldsIn, fieldsOf, Framed}
 use Rattle.fields_wire.specs.WireLaws.{fields-put}
 use Rattle.fields_schema.specs.Rules.{strictOf, ruleOf}
 use Rattle.fields_schema.specs.Tree.{mapO, thenO, guard, isSome, among, Content, Item, item, decode, add, byRule, step, items}
@@ -102,9 +102,13 @@ message-said k n k' v h = go (ruleOf k n) h
     go (Single f) p = form f p
     go (Repeated f) p = form f p
 
-pub held-framed : (n : ℕ) (b x : List ℕ) → Holds n b x → fieldsOf x ≡ some (field n (vlen b) ∷ [])
+-- the bytes of one field
+pub one-framed : {f : Field} (x : List ℕ) → Framed f x → fieldsOf x ≡ some (f ∷ [])
 unfolding fieldsOf fieldsIn
-held-framed n b x h = ap fieldsOf (sym (append-nil x)) ∙ fields-put [] h
+one-framed x h = ap fieldsOf (sym (append-nil x)) ∙ fields-put [] h
+
+pub held-framed : (n : ℕ) (b x : List ℕ) → Holds n b x → fieldsOf x ≡ some (field n (vlen b) ∷ [])
+held-framed n b x h = one-framed x h
 
 -- a field that holds a message, alone in a message
 pub one-message : (k : Kind) (n : ℕ) (k' : Kind) (b x : List ℕ) → Has (Nested k') (ruleOf k n) → Holds n b x → listed k x ≡ mapO (λ u. sub n u done) (listed k' b)

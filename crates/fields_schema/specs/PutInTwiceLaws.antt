@@ -8,11 +8,13 @@ use Rattle.fields_wire.specs.Wire.{Value, vlen, Field, field, readField, Framed
 use Rattle.fields_wire.specs.WireLaws.{steady-field}
 use Rattle.fields_schema.specs.Rules.{ruleOf}
 use Rattle.fields_schema.specs.PutIn.{Has, Holds, inSecurity, Replaces, PutIn}
+use Rattle.fields_schema.specs.LevelLaws.{one-form}
+use Rattle.fields_schema.specs.OptionLaws.{never}
 use Rattle.fields_schema.specs.declared.Kind.{Kind}
 use Rattle.fields_schema.specs.declared.Form.{Form}
 use Rattle.fields_schema.specs.declared.Form.the-variants.{Bytes, Opaque, Nested}
 use Rattle.fields_schema.specs.declared.Rule.{Rule}
-use Rattle.fields_schema.specs.declared.Rule.the-variants.{Unlisted, Refused, Once, Single, Repeated}
+use Rattle.fields_schema.specs.declared.Rule.the-variants.{Unlisted}
 
 -- one field stands in front of some bytes, and one rest after it
 front-field : {f g : Field} {x y r s : List ℕ} → Framed f x → Framed g y → x ++ r ≡ y ++ s → (f ≡ g) × (r ≡ s)
@@ -20,19 +22,9 @@ front-field {f} {g} {x} {y} {r} {s} h i e =
     let z : _≡_ {A = Got Field} (got f r) (got g s) = sym (steady-field .more x r (h .whole)) ∙ ap readField e ∙ steady-field .more y s (i .whole) in
     (cc, cc)
 
--- a rule has one form, and an unlisted field none
-pub one-form : (r : Rule) {f g : Form} → Has f r → Has g r → f ≡ g
-one-form Unlisted h i = absurd h
-one-form Refused h i = absurd h
-one-form (Once f) h i = h ∙ sym i
-one-form (Single f) h i = h ∙ sym i
-one-form (Repeated f) h i = h ∙ sym i
-
+-- an unlisted field has no form
 not-listed : {A : Type 0} {r : Rule} (f : Form) → r ≡ Unlisted → Has f r → A
 not-listed f u h = absurd (subst (λ (r : Rule). Has f r) u h)
-
-clash : {A : Type 0} → _≡_ {A = ℕ} 0 1 → A
-clash e = absurd (omega arith)
 
 framed-as : {f g : Field} {x : List ℕ} → f ≡ g → Framed f x → Framed g x
 framed-as {f} {g} {x} e h = subst (λ f. Framed f x) e h
@@ -97,17 +89,17 @@ module _ (R : Replaces) where
         let o : Nested j ≡ Nested k' = one-form (ruleOf k n) (has-form (Nested j) e g') g in
         let p' : PutIn R k' c a b = subst (λ (i : Kind). PutIn R i c a b) (cc) (onto (sym (holding e .1)) p) in
         counted (omega arith) (PutIn.inside n k' a b' (held-as e h) h' g (t c a p') (f c' m q))
-    then-inside i k' h' g t f (hidden n' a a' e h g' p) = let o : Opaque ≡ Nested k' = one-form (ruleOf k n) (has-form Opaque e g') g in clash (cc)
+    then-inside i k' h' g t f (hidden n' a a' e h g' p) = let o : Opaque ≡ Nested k' = one-form (ruleOf k n) (has-form Opaque e g') g in never (cc)
     then-inside i k' h' g t f (skipped n' a a' e h u p) = not-listed (Nested k') (ap (ruleOf k) (holding e .0) ∙ u) g
-    then-inside i k' h' g t f (replaced n' a a' e h g' w p) = let o : Bytes ≡ Nested k' = one-form (ruleOf k n) (has-form Bytes e g') g in clash (cc)
+    then-inside i k' h' g t f (replaced n' a a' e h g' w p) = let o : Bytes ≡ Nested k' = one-form (ruleOf k n) (has-form Bytes e g') g in never (cc)
 
     then-hidden : {c : ℕ} {m r s y : List ℕ} → Holds n b' y → Has Opaque (ruleOf k n) → Then k d r s → Came k (field n (vlen b)) r c m → PutIn R k (c + d) m (y ++ s)
     then-hidden h' g f (put n' v e u p) = not-listed Opaque (ap (ruleOf k) (numbered e .0) ∙ u) g
     then-hidden h' g f (kept {c = c} {m = m} h p) = PutIn.hidden n b b' h h' g (f c m p)
-    then-hidden h' g f (inside n' j a a' e h g' p q) = let o : Nested j ≡ Opaque = one-form (ruleOf k n) (has-form (Nested j) e g') g in clash (cc)
+    then-hidden h' g f (inside n' j a a' e h g' p q) = let o : Nested j ≡ Opaque = one-form (ruleOf k n) (has-form (Nested j) e g') g in never (cc)
     then-hidden h' g f (hidden {c = c} {m = m} n' a a' e h g' p) = PutIn.hidden n a b' (held-as e h) h' g (f c m p)
     then-hidden h' g f (skipped n' a a' e h u p) = not-listed Opaque (ap (ruleOf k) (holding e .0) ∙ u) g
-    then-hidden h' g f (replaced n' a a' e h g' w p) = let o : Bytes ≡ Opaque = one-form (ruleOf k n) (has-form Bytes e g') g in clash (cc)
+    then-hidden h' g f (replaced n' a a' e h g' w p) = let o : Bytes ≡ Opaque = one-form (ruleOf k n) (has-form Bytes e g') g in never (cc)
 
     then-skipped : {c : ℕ} {m r s y : List ℕ} → Holds n b' y → ruleOf k n ≡ Unlisted → Then k d r s → Came k (field n (vlen b)) r c m → PutIn R k (c + d) m (y ++ s)
     then-skipped h' u f (put {c = c} {m = m} n' v e u' p) = counted (omega arith) (PutIn.put n (vlen b') h' u (f c m p))
@@ -121,8 +113,8 @@ module _ (R : Replaces) where
         → Came k (field n (vlen b)) r c m → PutIn R k (c + d) m (y ++ s)
     then-replaced h' g w t f (put n' v e u p) = not-listed Bytes (ap (ruleOf k) (numbered e .0) ∙ u) g
     then-replaced h' g w t f (kept {c = c} {m = m} h p) = PutIn.replaced n b b' h h' g w (f c m p)
-    then-replaced h' g w t f (inside n' j a a' e h g' p q) = let o : Nested j ≡ Bytes = one-form (ruleOf k n) (has-form (Nested j) e g') g in clash (cc)
-    then-replaced h' g w t f (hidden n' a a' e h g' p) = let o : Opaque ≡ Bytes = one-form (ruleOf k n) (has-form Opaque e g') g in clash (cc)
+    then-replaced h' g w t f (inside n' j a a' e h g' p q) = let o : Nested j ≡ Bytes = one-form (ruleOf k n) (has-form (Nested j) e g') g in never (cc)
+    then-replaced h' g w t f (hidden n' a a' e h g' p) = let o : Opaque ≡ Bytes = one-form (ruleOf k n) (has-form Opaque e g') g in never (cc)
     then-replaced h' g w t f (skipped n' a a' e h u p) = not-listed Bytes (ap (ruleOf k) (holding e .0) ∙ u) g
     then-replaced h' g w t f (replaced {c = c} {m = m} n' a a' e h g' w' p) =
         PutIn.replaced n a b' (held-as e h) h' g (t a (subst (λ l. R k n a l) (sym (holding e .1)) (subst (λ i. R k i a a') (sym (holding e .0)) w'))) (f c m p)

@@ -3,7 +3,7 @@ use Prim.Native.Nat.{ℕ, _+_, _^_, _≤_, _<_}
 use native.Mathlib.Omega.{arith}
 use mathlib.Core.Path.{_≡_, refl, sym, ap, _∙_, subst}
 use mathlib.Core.Logic.{_⊎_, inl, inr}
-use mathlib.Core.List.{List, [], _∷_, _++_, append-assoc, append-nil}
+use mathlib.Core.List.{List, [], _∷_, _++_, append-assoc}
 use mathlib.Core.Option.{Option, none, some}
 use mathlib.Core.Bool.{Bool, true, false}
 use lib.ListN.{length, length-append}
@@ -18,23 +18,20 @@ use Rattle.fields_schema.specs.Tree.{Tree, done, int, raw, fix, sub, ope
 use Rattle.fields_schema.specs.Concat.{onceNumbers}
 use Rattle.fields_schema.specs.PutIn.{Has, Holds, Replaces, PutIn}
 use Rattle.fields_schema.specs.Merged.{joined}
-use Rattle.fields_schema.specs.MergedLaws.{int-join, raw-join, join-assoc, sub-join}
-use Rattle.fields_schema.specs.OptionLaws.{nothing-some, then-some, guard-some}
+use Rattle.fields_schema.specs.MergedLaws.{later-none, int-join, raw-join, join-assoc, sub-join}
+use Rattle.fields_schema.specs.OptionLaws.{never, nothing-some, then-some, guard-some}
 use Rattle.fields_schema.specs.Said.{said}
 use Rattle.fields_schema.specs.ConcatLaws.{framed-said, merge-plain, listed-framed, listed-split}
-use Rattle.fields_schema.specs.OccurrenceLaws.{one-message}
+use Rattle.fields_schema.specs.OccurrenceLaws.{one-framed, one-message}
 use Rattle.fields_schema.specs.FrontLaws.{field-front, framed-other, framed-length}
 use Rattle.fields_schema.specs.BoundariesLaws.{fields-stay}
-use Rattle.fields_schema.specs.PutInTwiceLaws.{one-form}
+use Rattle.fields_schema.specs.LevelLaws.{one-form}
 use Rattle.fields_schema.specs.Replaced.{Replaced, ReplacedInside}
 use Rattle.fields_schema.specs.declared.Kind.{Kind}
 use Rattle.fields_schema.specs.declared.Form.{Form}
 use Rattle.fields_schema.specs.declared.Form.the-variants.{Bytes, Nested}
 use Rattle.fields_schema.specs.declared.Rule.{Rule}
 use Rattle.fields_schema.specs.declared.Rule.the-variants.{Unlisted, Refused, Once, Single, Repeated}
-
-clash : {A : Type 0} → _≡_ {A = ℕ} 0 1 → A
-clash e = absurd (omega arith)
 
 -- the first field of some bytes --------------------------------------------------------------------------------------------
 
@@ -58,7 +55,7 @@ unfolding fieldsOf fieldsIn
 cut b m q = ap (λ o. thenFields o (λ r. fieldsIn (length m) r)) q
 
 front-of : (m : List ℕ) {f : Field} {fs : List Field} → fieldsOf m ≡ some (f ∷ fs) → Front f fs m
-front-of [] {f} {fs} e = let z = sym no-fields ∙ e in clash (cc)
+front-of [] {f} {fs} e = let z = sym no-fields ∙ e in never (cc)
 front-of (b ∷ m) {f} {fs} e = go (readField (b ∷ m)) refl
   where
     go : (o : Got Field) → readField (b ∷ m) ≡ o → Front f fs (b ∷ m)
@@ -68,19 +65,12 @@ front-of (b ∷ m) {f} {fs} e = go (readField (b ∷ m)) refl
         let h = cons-some g (fieldsOf r) (sym (fields-front (b ∷ m) q) ∙ e) in
         record { first = x .0; rest = r; split = x .1; framed = subst (λ f. Framed f (x .0)) (h .0) (x .2); left = h .1 }
 
-alone : {f : Field} (x : List ℕ) → Framed f x → fieldsOf x ≡ some (f ∷ [])
-alone {f} x h = ap fieldsOf (sym (append-nil x)) ∙ fields-put [] h ∙ ap (consO f) no-fields
-
 -- the last field in which a look-up finds something --------------------------------------------------------------------------
 
 -- a look-up in which the later counts
 record LastCounts {A : Type 0} (look : Tree → Option A) : Type 0 where
   in-none : look done ≡ none
   in-both : (t u : Tree) → look (join t u) ≡ later (look u) (look t)
-
-later-none : {A : Type 0} (o : Option A) → later o none ≡ o
-later-none none = refl
-later-none (some a) = refl
 
 ints-last : (n : ℕ) → LastCounts (λ t. intAt n t)
 ints-last n = record { in-none = refl; in-both = λ t u. int-join n t u }
@@ -128,7 +118,7 @@ module _ {A : Type 0} (look : Tree → Option A) (l : LastCounts look) (k : Kind
   last-field [] m {t} e s q = nothing-some (sym (l .in-none) ∙ ap look (sym (nothing-said k m e s)) ∙ q)
   last-field (f ∷ fs) m {t} {a} e s q =
       let x = front-of m e in
-      let i = alone (x .first) (x .framed) in
+      let i = one-framed (x .first) (x .framed) in
       let j = listed-split k (x .first) (x .rest) i (ap (listed k) (sym (x .split)) ∙ s) in
       let z : later (look (j .1)) (look (j .0)) ≡ some a = sym (l .in-both (j .0) (j .1)) ∙ ap look (j .4) ∙ q in
       go x i (j .0) (j .1) (j .2) (j .3) (j .4) (look (j .1)) refl z (λ a q. last-field fs (x .rest) {t = j .1} {a = a} (x .left) (j .3) q)
@@ -328,7 +318,7 @@ bytes-alone k n b h = go (ruleOf k n) h
 -- the last field of bytes
 module _ (k : Kind) (n : ℕ) (m b : List ℕ) {t : Tree} (plain : onceNumbers k ≡ []) (h : Has Bytes (ruleOf k n)) (x : Last (λ t. rawAt n t) k m t b) where
   own : (f : Field) (y : List ℕ) {u : Tree} → Framed f y → listed k y ≡ some u → rawAt n u ≡ some b → (f ≡ field n (vlen b)) × (u ≡ raw n b done)
-  own (field i v) y f r z = own-bytes k n i v h (sym (framed-said k y (alone y f)) ∙ r) z
+  own (field i v) y f r z = own-bytes k n i v h (sym (framed-said k y (one-framed y f)) ∙ r) z
 
   own-field : (x .one ≡ field n (vlen b)) × (x .own ≡ raw n b done)
   own-field = own (x .one) (x .bytes) (x .framed) (x .own-says) (x .found)
@@ -350,7 +340,7 @@ module _ (k : Kind) (n : ℕ) (m b : List ℕ) {t : Tree} (plain : onceNumbers k
             (fields-stay R (x .before) (x .whole) (PutIn.replaced n b b' own-holds g h w (PutIn.same k (x .after))));
         says =
             merge-plain k (x .before) (y ++ x .after) plain (x .first-says)
-            (merge-plain k y (x .after) plain (framed-said k y (alone y g) ∙ bytes-alone k n b' h) (x .rest-says));
+            (merge-plain k y (x .after) plain (framed-said k y (one-framed y g) ∙ bytes-alone k n b' h) (x .rest-says));
         bytes = last-found (raws-last n) (x .first) (raw n b' done) (x .rest) (ap (λ t. guard t b') (eq-eqb n n refl)) (x .none-later);
         ints = λ i. alike (ints-last i) (x .first) (x .own) (raw n b' done) (x .rest) (ap (intAt i) (sym (own-field .1))) ∙ ap (intAt i) (x .is);
         subs = λ i. subs-alike i (x .first) (x .own) (raw n b' done) (x .rest) (ap (subAt i) (sym (own-field .1))) ∙ ap (subAt i) (x .is);
@@ -381,7 +371,7 @@ module _ (R : Replaces) (k : Kind) (n : ℕ) (k' : Kind) (i : ℕ) (plain : once
   within-counts = within-last n (λ u. rawAt i u) (raws-last i)
 
   own-inside : (f : Field) (y : List ℕ) {t u : Tree} → Framed f y → listed k y ≡ some t → subAt n t ≡ some u → OwnMessage k' n f t u
-  own-inside (field j v) y f r z = own-message k n k' j v h (sym (framed-said k y (alone y f)) ∙ r) z
+  own-inside (field j v) y f r z = own-message k n k' j v h (sym (framed-said k y (one-framed y f)) ∙ r) z
 
   sub-alone : (u : Tree) → subAt n (sub n u done) ≡ some u
   sub-alone u = ap (λ b. joinO b u none) (eq-eqb n n refl)

@@ -1,9 +1,9 @@
 -- Demand 3 put to use: a message with the box's own hmac under any key, and fields put in at every depth. None of the conditions is empty.
-use Prim.Native.Nat.{ℕ, _+_, _≤_}
+use Prim.Native.Nat.{ℕ, _≤_}
 use native.Mathlib.Omega.{arith}
-use mathlib.Core.Path.{_≡_, refl, sym, ap, _∙_, subst₂}
+use mathlib.Core.Path.{_≡_, refl, ap, _∙_}
 use mathlib.Core.List.{List, [], _++_}
-use mathlib.Core.Option.{Option, some}
+use mathlib.Core.Option.{some}
 use lib.ListN.{length, length-append}
 use Rattle.fields_wire.specs.Wire.{varintIn, vint, vlen, field, valueOf, readField, fieldsIn, fieldsOf, Framed}
 use Rattle.fields_schema.specs.Tree.{mapO, thenO, done, int, raw, items, level, openAll, listedIn, listed}
@@ -24,10 +24,11 @@ use Rattle.access_record.specs.ReadbackLaws.{table-back, host-good}
 use Rattle.protocol.specs.Frame as framing
 use Rattle.protocol.specs.Frame.{frame}
 use Rattle.protocol.specs.State.{State}
-use Rattle.protocol.specs.Reading.{securityOnce, decodes, Envelope, envelope, envelopeOf, readMessage, read, undecodable, decoded}
+use Rattle.protocol.specs.Reading.{securityOnce, decodes, envelope, envelopeOf, readMessage, read, undecodable, decoded}
 use Rattle.protocol.specs.Answer.{answered, reading}
 use Rattle.protocol.specs.Demand.{Free, Edited, SameBut, RefusedOr, Signed}
 use Rattle.protocol.specs.FirstStepsLaws.{reads}
+use Rattle.protocol.specs.EditedLaws.{edited-by, signed-by}
 use Rattle.protocol.specs.Reply.{signedTree, signedReply}
 use Rattle.protocol.specs.Box as the
 use Rattle.protocol.specs.Box.{box, answers}
@@ -42,29 +43,14 @@ added-framed = record { whole = refl }
 
 -- ---- a message that is read as the commandBytes b of identity 1 with the box's own hmac
 
-module _ (key b m : List ℕ) (is-read : readMessage m ≡ some (envelope 1 (hmac key b) b)) where
-  envelope-right : {i : ℕ} {sig c : List ℕ} → _≡_ {A = Option Envelope} (some (envelope 1 (hmac key b) b)) (some (envelope i sig c)) → sig ≡ hmac key c
-  envelope-right {i} {sig} {c} e = let p : sig ≡ hmac key b = cc in let q : b ≡ c = cc in p ∙ ap (hmac key) q
-
-  signed-right : Signed box key m
-  signed-right i sig c e = envelope-right (sym is-read ∙ e)
-
-  -- a device record as Format makes it knows the identity
-  known : (s : State) → 1 ≤ length key → length key ≤ 64 → s .device ≡ tableBytes (hostTable key) → reading box s m ≡ decoded 1 key (decodes b)
-  unfolding placeOf findFrom aclOf
-  known s least most e =
-      reads box s m is-read
-      (ap (λ t. mapO (λ a. a .key) (the.aclAt s (placeOf t 1))) (ap tableOf e ∙ table-back (hostTable key) (host-good key least most))
-      ∙ ap (λ t. some (aclOf t 0 .key)) (ap tableOf e ∙ table-back (hostTable key) (host-good key least most))) refl
-
-inner : {i j : ℕ} {x y c d : List ℕ} → _≡_ {A = Option Envelope} (some (envelope i x c)) (some (envelope j y d)) → c ≡ d
-inner e = cc
-
--- fields put around the command and into it
-edited-by : (key b b' m m' : List ℕ) {c : ℕ} → readMessage m ≡ some (envelope 1 (hmac key b) b) → readMessage m' ≡ some (envelope 1 (hmac key b') b')
-    → PutIn Free Message 0 m m' → PutIn Nothing Command c b b' → Edited c m m'
-edited-by key b b' m m' {c} r r' a p =
-    record { around = a; within = λ i i' sig sig' d d' e e'. subst₂ (PutIn Nothing Command c) (inner (sym r ∙ e)) (inner (sym r' ∙ e')) p }
+-- a device record as Format makes it knows the identity
+known : (key b m : List ℕ) → readMessage m ≡ some (envelope 1 (hmac key b) b) → (s : State) → 1 ≤ length key → length key ≤ 64 → s .device ≡ tableBytes (hostTable key)
+    → reading box s m ≡ decoded 1 key (decodes b)
+unfolding placeOf findFrom aclOf
+known key b m is-read s least most e =
+    reads box s m is-read
+    (ap (λ t. mapO (λ a. a .key) (the.aclAt s (placeOf t 1))) (ap tableOf e ∙ table-back (hostTable key) (host-good key least most))
+    ∙ ap (λ t. some (aclOf t 0 .key)) (ap tableOf e ∙ table-back (hostTable key) (host-good key least most))) refl
 
 -- ---- the message
 
@@ -112,13 +98,13 @@ module _ (key b : List ℕ) (short : length b ≤ 1024) where
 
   -- the hmac that counts is right for the commandBytes that count
   pub signed : Signed box key (fuller key b)
-  signed = signed-right key b (fuller key b) fuller-read
+  signed = signed-by key b (fuller key b) fuller-read
 
 -- fields put into the command, the HMACauth and the Message, and signed again
 pub edited : (key b b' : List ℕ) {c : ℕ} → length b ≤ 1024 → length b' ≤ 1024 → PutIn Nothing Command c b b' → Edited c (message key b) (fuller key b')
 unfolding encode
 edited key b b' h h' p =
-    edited-by key b b' (message key b) (fuller key b') (message-read key b h) (fuller-read key b' h')
+    edited-by (message key b) (fuller key b') (message-read key b h) (fuller-read key b' h')
     (PutIn.put 15 (vint 1) added-framed refl
     (PutIn.keep (field 4 (vint 1)) (int-framed 4 1 (number refl) (omega arith)) (int-framed 4 1 (number refl) (omega arith))
     (PutIn.inside 5 HmacAuth (auth key b) (added ++ auth key b') (len-framed 5 (auth key b) (number refl) (omega (arith, auth-length key b h))) (auth-framed key b' h') refl
@@ -247,7 +233,7 @@ module _ (key a b : List ℕ) (limit : length a ≤ 1024) (short : length b ≤ 
 pub edited-twice : (key a a' b b' : List ℕ) {c : ℕ} → length a ≤ 1024 → length a' ≤ 1024 → length b ≤ 1024 → length b' ≤ 1024 → PutIn Nothing Command c b b'
     → Edited c (message-twice key a b) (fuller-twice key a' b')
 edited-twice key a a' b b' h h' g g' p =
-    edited-by key b b' (message-twice key a b) (fuller-twice key a' b') (twice-read key a b h g) (fuller-twice-read key a' b' h' g')
+    edited-by (message-twice key a b) (fuller-twice key a' b') (twice-read key a b h g) (fuller-twice-read key a' b' h' g')
     (twice-around Free key a a' b b'
     (gives Free HmacAuth 2 (hmac key b) (hmac key b') (number refl) (omega (arith, hmac-length key b)) (omega (arith, hmac-length key b')) refl (Free.hmac (hmac key b) (hmac key b')))
     (gives Free Message 7 a a' (number refl) h h' refl (Free.command a a')) (gives Free Message 7 b b' (number refl) g g' refl (Free.command b b')))
@@ -290,7 +276,7 @@ module _ (key a b : List ℕ) (limit : length a ≤ 1024) (short : length b ≤ 
 pub edited-six : (key a a' b b' : List ℕ) {c : ℕ} → length a ≤ 1024 → length a' ≤ 1024 → length b ≤ 1024 → length b' ≤ 1024 → PutIn Nothing Command c b b'
     → Edited c (message-six key a b) (message-six key a' b')
 edited-six key a a' b b' h h' g g' p =
-    edited-by key b b' (message-six key a b) (message-six key a' b') (six-read key a b h g) (six-read key a' b' h' g')
+    edited-by (message-six key a b) (message-six key a' b') (six-read key a b h g) (six-read key a' b' h' g')
     (six-around Free key a a' b b' h h' g g'
     (gives Free HmacAuth 2 (hmac key b) (hmac key b') (number refl) (omega (arith, hmac-length key b)) (omega (arith, hmac-length key b')) refl (Free.hmac (hmac key b) (hmac key b')))
     (gives Free Message 7 b b' (number refl) g g' refl (Free.command b b')))
@@ -352,7 +338,7 @@ module _ (s : State) (key : List ℕ) (least : 1 ≤ length key) (most : length 
       (known key plain (message-twice key a plain) (twice-read key a plain h (omega arith)) s least most formatted ∙ ap (decoded 1 key) says-plain)
       (record { message = omega (arith, twice-length key a plain h (omega arith)); value = limit })
       (edited-twice key a a' plain newer h h' (omega arith) (omega arith) put-newer)
-      (signed-right key newer (fuller-twice key a' newer) (fuller-twice-read key a' newer h' (omega arith)))
+      (signed-by key newer (fuller-twice key a' newer) (fuller-twice-read key a' newer h' (omega arith)))
       (record { message = omega (arith, fuller-twice-length key a' newer h' (omega arith)); value = limit })
 
   -- any bytes a' for the contents a of Message 6
@@ -363,5 +349,5 @@ module _ (s : State) (key : List ℕ) (least : 1 ≤ length key) (most : length 
       (known key plain (message-six key a plain) (six-read key a plain h (omega arith)) s least most formatted ∙ ap (decoded 1 key) says-plain)
       (record { message = omega (arith, six-length key a plain h (omega arith)); value = limit })
       (edited-six key a a' plain newer h h' (omega arith) (omega arith) put-newer)
-      (signed-right key newer (message-six key a' newer) (six-read key a' newer h' (omega arith)))
+      (signed-by key newer (message-six key a' newer) (six-read key a' newer h' (omega arith)))
       (record { message = omega (arith, six-length key a' newer h' (omega arith)); value = limit })

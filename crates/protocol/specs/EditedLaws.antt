@@ -81,6 +81,18 @@ pub read-like : {m m' : List ℕ} {i : ℕ} {sig c : List ℕ} → PutIn Free Me
 unfolding readMessage
 read-like r e = let a = tree-like (put-in-replaced Free r) e in (a .sig, a .command, a .is)
 
+-- what is read of both messages tells what counts; fields put around the command and into it
+envelopes : {i j : ℕ} {x y b c : List ℕ} → _≡_ {A = Option Envelope} (some (envelope i x b)) (some (envelope j y c)) → (i ≡ j) × (x ≡ y) × (b ≡ c)
+envelopes e = (cc, cc, cc)
+
+pub edited-by : {c i i' : ℕ} {sig sig' b b' : List ℕ} (m m' : List ℕ) → readMessage m ≡ some (envelope i sig b) → readMessage m' ≡ some (envelope i' sig' b')
+    → PutIn Free Message 0 m m' → PutIn Nothing Command c b b' → Edited c m m'
+edited-by {c} m m' r r' a p =
+    record { around = a; within = λ j j' x x' d d' e e'. subst₂ (PutIn Nothing Command c) (envelopes (sym r ∙ e) .2) (envelopes (sym r' ∙ e') .2) p }
+
+pub signed-by : {i : ℕ} (key b m : List ℕ) → readMessage m ≡ some (envelope i (hmac key b) b) → Signed box key m
+signed-by key b m r j sig c e = let z = envelopes (sym r ∙ e) in sym (z .1) ∙ ap (hmac key) (z .2)
+
 -- edited twice ------------------------------------------------------------------------------------------------------------
 
 free-twice : (k : Kind) (n : ℕ) (a b c : List ℕ) → Free k n a b → Free k n b c → Free k n a c
@@ -115,9 +127,6 @@ present : (o : Option (List ℕ)) (b : List ℕ) → orElse [] o ≡ b → lengt
 present none b e l = absurd (omega (arith, ap length e, l))
 present (some a) b e l = ap some e
 
-envelopes : {i j : ℕ} {x y b c : List ℕ} → _≡_ {A = Option Envelope} (some (envelope i x b)) (some (envelope j y c)) → (i ≡ j) × (x ≡ y) × (b ≡ c)
-envelopes e = (cc, cc, cc)
-
 module _ (s : State) (m : List ℕ) {i : ℕ} {key : List ℕ} {t : Tree} (e : reading box s m ≡ read i key t) where
   steps : FirstSteps box s m i key t
   steps = steps-passed box s m e
@@ -126,13 +135,8 @@ module _ (s : State) (m : List ℕ) {i : ℕ} {key : List ℕ} {t : Tree} (e : r
   outside-edited : (m' : List ℕ) → PutIn Nothing Message 0 m m' → PutIn Free Message 0 m m' → Edited 0 m m' × Signed box key m'
   unfolding readMessage
   outside-edited m' p q =
-      let r : readMessage m' ≡ readMessage m = ap (λ o. thenO o (λ t. envelopeOf t)) (put-in-same p) in (
-        record {
-          around = q;
-          within = λ j j' sig sig' b b' x x'. let z = envelopes (sym x ∙ sym r ∙ x') in subst (λ l. PutIn Nothing Command 0 b l) (z .2) (PutIn.same Command b);
-        },
-        λ j sig c x. let z = envelopes (sym (steps-open box s m steps) ∙ sym r ∙ x) in sym (z .1) ∙ ap (hmac key) (z .2),
-      )
+      let r = ap (λ o. thenO o (λ t. envelopeOf t)) (put-in-same p) ∙ steps-open box s m steps in
+      (edited-by m m' (steps-open box s m steps) r q (PutIn.same Command (steps .commandBytes)), signed-by key (steps .commandBytes) m' r)
 
   -- in the command that counts: it is replaced, and then its hmac
   inside-edited : (c : ℕ) (b' : List ℕ) → PutIn Nothing Command c (steps .commandBytes) b' → length b' < 2 ^ 64 → length m + length b' + 100 < 2 ^ 64 + length (steps .commandBytes)
@@ -146,12 +150,8 @@ module _ (s : State) (m : List ℕ) {i : ℕ} {key : List ℕ} {t : Tree} (e : r
       let r : readMessage (y .message) ≡ some (envelope i (hmac key b') b') =
       read-parts (y .message) (y .tree) (y .inner) (y .says) (y .ints 4 ∙ x .ints 4 ∙ steps .auth-type) (y .is) (y .inner-ints 1 ∙ steps .identity-present) (y .bytes) (y .raws 7 ∙ x .bytes) in (
         y .message,
-        record {
-          around = put-in-twice Free free-twice (x .put) (y .put);
-          within = λ j j' sig sig' d d' u u'.
-              subst₂ (PutIn Nothing Command c) (envelopes (sym (steps-open box s m steps) ∙ u) .2) (envelopes (sym r ∙ u') .2) p;
-        },
-        λ j sig d u. let z = envelopes (sym r ∙ u) in sym (z .1) ∙ ap (hmac key) (z .2),
+        edited-by m (y .message) (steps-open box s m steps) r (put-in-twice Free free-twice (x .put) (y .put)) p,
+        signed-by key b' (y .message) r,
         r,
         omega (arith, x .long, y .long, hmac-length key b, hmac-length key b'),
       )
