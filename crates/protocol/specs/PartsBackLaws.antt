@@ -118,7 +118,7 @@ signed-gives i key c a y b code v =
     record {
       identity = refl;
       signature = refl;
-      connectionID = ap (λ o. thenO o (λ u. intAt 3 u)) h ∙ int-here 3 c t (intO-past 3 6 a (int 7 y done) refl);
+      connection = ap (λ o. thenO o (λ u. intAt 3 u)) h ∙ int-here 3 c t (intO-past 3 6 a (int 7 y done) refl);
       ackSequence = ap (λ o. thenO o (λ u. intAt 6 u)) h ∙ int-past 6 3 c t refl ∙ intO-here 6 a (int 7 y done) refl;
       type = ap (λ o. thenO o (λ u. intAt 7 u)) h ∙ int-past 7 3 c t refl ∙ intO-past 7 6 a (int 7 y done) refl;
       body = body-found b code;
@@ -129,7 +129,7 @@ signed-gives i key c a y b code v =
 -- "Closing replies: …; header 3 and status only"
 closing-gives : (c code : ℕ) → Gives c (closingWith c code) (closingContent code)
 closing-gives c code =
-    record { identity = refl; signature = refl; connectionID = refl; ackSequence = refl; type = refl; body = refl; code = refl; value = refl }
+    record { identity = refl; signature = refl; connection = refl; ackSequence = refl; type = refl; body = refl; code = refl; value = refl }
 
 -- the reply to what is read gives what the steps gave
 pub reply-gives : (s : State) (v : List ℕ) (r : Reading) → Gives (s .connection .number) (messageIn (respond box s v r)) (contentOf s v r)

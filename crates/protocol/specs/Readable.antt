@@ -18,11 +18,11 @@ use Rattle.protocol.specs.ReplyContent.{ReplyContent, contentTo}
 abbrev pub SaysReply : List ℕ → ReplyMessage → Type 0
 SaysReply r t = Says r (replyTree t) (replyCommand t) (replyValue t)
 
--- what look-ups find in the message, the command and the value part of a reply on this connection
-pub record Gives (connection : ℕ) (reply : ReplyMessage) (c : ReplyContent) : Type 0 where
+-- what look-ups find in the message, the command and the value part of a reply on the connection of this number
+pub record Gives (number : ℕ) (reply : ReplyMessage) (c : ReplyContent) : Type 0 where
   pub identity : identityRead (replyTree reply) ≡ c .identity
   pub signature : hmacRead (replyTree reply) ≡ mapO (λ key. hmac key (encode (replyCommand reply))) (c .key)
-  pub connectionID : connectionRead (replyCommand reply) ≡ some connection
+  pub connection : connectionRead (replyCommand reply) ≡ some number
   pub ackSequence : ackSequenceRead (replyCommand reply) ≡ c .ackSequence
   pub type : typeRead (replyCommand reply) ≡ c .type
   pub body : bodyRead (subAt 2 (replyCommand reply)) ≡ c .body
