@@ -2,7 +2,7 @@
 use Prim.Native.Nat.{ℕ, _+_, _*_}
 use mathlib.Core.List.{List, [], _∷_, _++_}
 use lib.ListN.{length}
-use Rattle.fields_schema.specs.FieldNumbers.{Message-authType, Message-hmacAuth, Message-commandBytes, HMACauth-identity, HMACauth-hmac, Command-header}
+use Rattle.fields_schema.specs.FieldNumbers.{Message-authType, Message-hmacAuth, Message-pinAuth, Message-commandBytes, HMACauth-identity, HMACauth-hmac, Command-header}
 use Rattle.fields_schema.specs.FieldNumbers.{Command-body, Header-connectionID, Header-sequence, Header-messageType, Body-keyValue, Body-security, KeyValue-key}
 use Rattle.fields_schema.specs.FieldNumbers.{KeyValue-force, Security-acl, ACL-identity, ACL-scope, Scope-permission}
 use Rattle.fields_schema.specs.Tree.{Tree, done, int, raw, sub}
@@ -99,10 +99,13 @@ fuller-twice key a b =
 
 -- a message whose field 6 has the contents a
 abbrev pub sixTree : List ℕ → List ℕ → Tree
-sixTree key b = int 4 1 (sub 5 (int 1 1 (raw 2 (hmac key b) done)) (raw 6 [] (raw 7 b done)))
+sixTree key b =
+    int Message-authType HMACAUTH (sub Message-hmacAuth (int HMACauth-identity 1 (raw HMACauth-hmac (hmac key b) done))
+    (raw Message-pinAuth [] (raw Message-commandBytes b done)))
 
 abbrev pub message-six : List ℕ → List ℕ → List ℕ → List ℕ
-message-six key a b = intField 4 1 ++ (lenField 5 (auth key b) ++ (lenField 6 a ++ (lenField 7 b ++ [])))
+message-six key a b =
+    intField Message-authType HMACAUTH ++ (lenField Message-hmacAuth (auth key b) ++ (lenField Message-pinAuth a ++ (lenField Message-commandBytes b ++ [])))
 
 abbrev pub acls : List ℕ
 acls = hold Security-acl (0x08 ∷ 0x01 ∷ hold ACL-scope (0x18 ∷ 0x00 ∷ []))

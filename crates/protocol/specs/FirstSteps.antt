@@ -4,6 +4,7 @@ use mathlib.Core.Path.{_≡_}
 use mathlib.Core.Bool.{true}
 use mathlib.Core.List.{List, []}
 use mathlib.Core.Option.{some}
+use Rattle.fields_schema.specs.FieldNumbers.{Message-authType, Message-hmacAuth, Message-commandBytes, HMACauth-identity, HMACauth-hmac}
 use Rattle.fields_schema.specs.Tree.{Tree, intAt, rawAt, subAt, listed}
 use Rattle.base_definitions.specs.Options.{orElse}
 use Rattle.fields_schema.specs.declared.Kind.the-variants.{Message, Command}
@@ -17,13 +18,13 @@ pub record FirstSteps (D : Device) (s : D .State) (m : List ℕ) (identity : ℕ
   pub auth : Tree
   pub commandBytes : List ℕ
   pub message-decodes : listed Message m ≡ some message
-  pub auth-type : intAt 4 message ≡ some HMACAUTH
-  pub auth-present : subAt 5 message ≡ some auth
-  pub identity-present : intAt 1 auth ≡ some identity
-  pub command-present : rawAt 7 message ≡ some commandBytes
+  pub auth-type : intAt Message-authType message ≡ some HMACAUTH
+  pub auth-present : subAt Message-hmacAuth message ≡ some auth
+  pub identity-present : intAt HMACauth-identity auth ≡ some identity
+  pub command-present : rawAt Message-commandBytes message ≡ some commandBytes
   -- 2. "Identity in the table and hmac right over commandBytes"
   pub key-found : D .keyOf s identity ≡ some key
-  pub hmac-right : orElse [] (rawAt 2 auth) ≡ D .hmac key commandBytes
+  pub hmac-right : orElse [] (rawAt HMACauth-hmac auth) ≡ D .hmac key commandBytes
   -- 3. "Command decodes"; document 02, CR 5: no second Security
   pub command-decodes : listed Command commandBytes ≡ some command
   pub security-once : securityOnce command ≡ true

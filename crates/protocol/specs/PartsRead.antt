@@ -2,7 +2,7 @@
 use Prim.Native.Nat.{ℕ, _+_, _*_}
 use mathlib.Core.List.{List, []}
 use mathlib.Core.Option.{Option, none, some}
-use Rattle.fields_schema.specs.FieldNumbers.{Message-hmacAuth, HMACauth-identity, HMACauth-hmac, Command-header, Command-body, Command-status, Header-connectionID, Header-ackSequence, Header-messageType}
+use Rattle.fields_schema.specs.FieldNumbers.{Message-hmacAuth, HMACauth-identity, HMACauth-hmac, Command-header, Command-status, Header-connectionID, Header-ackSequence, Header-messageType}
 use Rattle.fields_schema.specs.FieldNumbers.{Body-keyValue, Body-range, Body-getLog, KeyValue-key, KeyValue-dbVersion, KeyValue-tag, KeyValue-algorithm}
 use Rattle.fields_schema.specs.FieldNumbers.{Range-keys, GetLog-utilizations, GetLog-temperatures, GetLog-capacity, GetLog-limits, Utilization-name}
 use Rattle.fields_schema.specs.FieldNumbers.{Utilization-value, Capacity-nominalCapacityInBytes, Capacity-portionFull, Status-code}

@@ -3,6 +3,7 @@ use Prim.Native.Nat.{ℕ}
 use mathlib.Core.Path.{_≡_}
 use mathlib.Core.List.{List}
 use mathlib.Core.Option.{some}
+use Rattle.fields_schema.specs.FieldNumbers.{Command-body}
 use Rattle.fields_schema.specs.Tree.{mapO, subAt}
 use Rattle.fields_encoding.specs.Encode.{encode}
 use Rattle.signature_hmac.specs.Hmac.{hmac}
@@ -25,7 +26,7 @@ pub record Gives (number : ℕ) (reply : ReplyMessage) (c : ReplyContent) : Type
   pub connection : connectionRead (replyCommand reply) ≡ some number
   pub ackSequence : ackSequenceRead (replyCommand reply) ≡ c .ackSequence
   pub type : typeRead (replyCommand reply) ≡ c .type
-  pub body : bodyRead (subAt 2 (replyCommand reply)) ≡ c .body
+  pub body : bodyRead (subAt Command-body (replyCommand reply)) ≡ c .body
   pub code : codeRead (replyCommand reply) ≡ some (c .code)
   pub value : replyValue reply ≡ c .value
 
