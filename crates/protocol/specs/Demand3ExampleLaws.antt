@@ -10,6 +10,7 @@ use Rattle.fields_schema.specs.Tree.{mapO, thenO, done, int, raw, items, level,
 use Rattle.fields_schema.specs.Rules.{ruleOf}
 use Rattle.fields_schema.specs.PutIn.{Has, Holds, Replaces, Nothing, PutIn}
 use Rattle.fields_schema.specs.PutInLaws.{put-in-same}
+use Rattle.fields_schema.specs.Boundaries.{Boundary}
 use Rattle.fields_schema.specs.declared.Kind.{Kind}
 use Rattle.fields_schema.specs.declared.Kind.the-variants.{Message, HmacAuth, Command, Header, Body, KeyValue, Security}
 use Rattle.fields_schema.specs.declared.Form.the-variants.{Bytes}
@@ -26,9 +27,9 @@ use Rattle.protocol.specs.Frame.{frame}
 use Rattle.protocol.specs.State.{State}
 use Rattle.protocol.specs.Reading.{securityOnce, decodes, envelope, envelopeOf, readMessage, read, undecodable, decoded}
 use Rattle.protocol.specs.Answer.{answered, reading}
-use Rattle.protocol.specs.Demand.{Free, Edited, SameBut, RefusedOr, Signed}
+use Rattle.protocol.specs.Demand.{Free, Edited, SameBut, RefusedOr, Signed, Place, EditedAt}
 use Rattle.protocol.specs.FirstStepsLaws.{reads}
-use Rattle.protocol.specs.EditedLaws.{edited-by, signed-by}
+use Rattle.protocol.specs.EditedLaws.{edited-by, signed-by, edited-anywhere}
 use Rattle.protocol.specs.Reply.{signedTree, signedReply}
 use Rattle.protocol.specs.Box as the
 use Rattle.protocol.specs.Box.{box, answers}
@@ -297,6 +298,13 @@ put-stranger =
     (PutIn.put 15 (vint 1) added-framed refl (PutIn.same Security acls)) (PutIn.same Body []))
     (PutIn.same Command []))
 
+-- a place: before the fields of that Security
+unfoldable in-security : Boundary Security Command securing
+unfolding fieldsOf fieldsIn readField valueOf varintIn
+in-security =
+    Boundary.inside {x = hold 2 (hold 7 acls)} (hold 1 (header 26)) [] refl 2 Body (hold 7 acls) (record { whole = refl }) refl
+    (Boundary.inside {x = hold 7 acls} [] [] refl 7 Security acls (record { whole = refl }) refl (Boundary.here [] acls refl))
+
 -- ---- the two theorems, for every key, value part, store, connection and reply buffer; the record is the one that Format makes
 
 module _ (s : State) (key : List ℕ) (least : 1 ≤ length key) (most : length key ≤ 64) (formatted : s .device ≡ tableBytes (hostTable key))
@@ -321,6 +329,16 @@ module _ (s : State) (key : List ℕ) (least : 1 ≤ length key) (most : length 
       refused-inside-security-reply s out (message key securing) (fuller key stranger) v rest rest' 1 key security-tree 0
       (known key securing (message key securing) (message-read key securing (omega arith)) s least most formatted ∙ ap (decoded 1 key) says-securing) (in-limits securing (omega arith))
       (edited key securing stranger (omega arith) (omega arith) put-stranger) (signed key stranger (omega arith)) (fuller-limits stranger (omega arith))
+
+  -- the field goes in at that place, and the message is signed again
+  abbrev security-place : Place (message key securing) Security
+  security-place = Place.command 1 (hmac key securing) securing (message-read key securing (omega arith)) in-security
+
+  place-shown : EditedAt box key added security-place
+  unfolding in-security
+  place-shown =
+      edited-anywhere s (message key securing) (known key securing (message key securing) (message-read key securing (omega arith)) s least most formatted ∙ ap (decoded 1 key) says-securing)
+      security-place 15 (vint 1) added added-framed refl (omega (arith, message-length key securing (omega arith)))
 
   -- header and body sent twice
   pub command-twice-shown : (reading box s (fuller key newer-twice) ≡ read 1 key tree-twice)
