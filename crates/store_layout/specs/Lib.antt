@@ -6,6 +6,8 @@ pub mod Size
 pub mod SizeLaws
 pub mod Places
 pub mod EntriesLaws
+pub mod Lookup
+pub mod LookupLaws
 pub mod WalkLaws
 pub mod Check
 pub mod CheckLaws

@@ -1,9 +1,10 @@
--- Laws of local read: what each way through it says; a key that isn't 1 to 64 bytes is not found.
+-- Laws of local read: what each way through it says; it finds the entry under the key; a key that isn't 1 to 64 bytes is not found.
 use mathlib.Core.Path.{_≡_, refl, sym, ap, _∙_}
 use mathlib.Core.Bool.{Bool, true, false, cond}
 use mathlib.Core.List.{List, [], _∷_}
 use Prim.Native.Nat.{ℕ, _+_, _≤_}
 use native.Mathlib.Omega.{arith}
+use mathlib.Core.Option.{Option, none, some}
 use lib.ListN.{length}
 use Rattle.store_block.specs.declared.Order.{Order}
 use Rattle.store_block.specs.declared.Order.the-variants.{Less, Equal, Greater}
@@ -15,9 +16,11 @@ use Rattle.store_layout.specs.declared.Found.the-variants.{At, Gap}
 use Rattle.store_layout.specs.Store.{entriesOf, storeGood, Good, AllFit}
 use Rattle.store_layout.specs.CheckLaws.{store-decides}
 use Rattle.store_layout.specs.Entries.{byOrder, findFrom, findIn}
+use Rattle.store_layout.specs.Lookup as lookup
+use Rattle.store_layout.specs.LookupLaws.{find-at, find-gap}
 use Rattle.store_local_read.specs.declared.Local.{Local}
 use Rattle.store_local_read.specs.declared.Local.the-variants.{NotFound, StoreBad}
-use Rattle.store_local_read.specs.Local.{notFound, storeBad, under, localOf, LocalIs}
+use Rattle.store_local_read.specs.Local.{Outcome, found, notFound, storeBad, under, localOf, LocalIs}
 use Rattle.store_local_read.specs.ValueAt.{ValueAt}
 
 module _ (l k : List ℕ) where
@@ -39,6 +42,25 @@ module _ (l k : List ℕ) where
   pub is-missing : storeGood l ≡ true → (i : ℕ) → Gap i ≡ findIn k (entriesOf l) → LocalIs l k NotFound
   unfolding under
   is-missing h i q = record { inside = tt; same = ap (λ (o : Found). under o (entriesOf l)) q ∙ sym (judged h) }
+
+-- of the entry under the key the value, if there is one
+abbrev valueUnder : Option Entry → Outcome
+valueUnder none = notFound
+valueUnder (some e) = found (e .value)
+
+local-under : (l k : List ℕ) → storeGood l ≡ true → localOf l k ≡ valueUnder (lookup.under k (entriesOf l))
+unfolding under
+local-under l k h = judged l k h ∙ go (findIn k (entriesOf l)) refl
+  where
+    go : (o : Found) → findIn k (entriesOf l) ≡ o → under o (entriesOf l) ≡ valueUnder (lookup.under k (entriesOf l))
+    go (At i) q = ap valueUnder (sym (find-at k (entriesOf l) i q))
+    go (Gap i) q = ap valueUnder (sym (find-gap k (entriesOf l) i q))
+
+pub local-found : (l k : List ℕ) (e : Entry) → storeGood l ≡ true → lookup.under k (entriesOf l) ≡ some e → localOf l k ≡ found (e .value)
+local-found l k e h u = local-under l k h ∙ ap valueUnder u
+
+pub local-missing : (l k : List ℕ) → storeGood l ≡ true → lookup.under k (entriesOf l) ≡ none → localOf l k ≡ notFound
+local-missing l k h u = local-under l k h ∙ ap valueUnder u
 
 -- ---- "not found (also for a key that isn't 1 to 64 bytes)"
 no-such : (j : ℕ) (k : List ℕ) (es : List Entry) → AllFit es → (1 ≤ length k → length k ≤ 64 → ⊥) → under (findFrom j k es) [] ≡ notFound
