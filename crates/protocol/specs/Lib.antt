@@ -46,6 +46,7 @@ pub mod WorkedLaws
 pub mod FrameStartLaws
 pub mod CallRefusalLaws
 pub mod HmacFailureLaws
+pub mod AlgorithmLaws
 pub mod Passes
 pub mod AcceptedLaws
 pub mod PutLaws

@@ -74,7 +74,7 @@ sent-same t u true e = cc
 sent-same t u false e = never (cc)
 
 -- a command that decodes says its tree
-decodes-listed : (c : List ℕ) {t : Tree} → decodes c ≡ some t → listed CommandKind c ≡ some t
+pub decodes-listed : (c : List ℕ) {t : Tree} → decodes c ≡ some t → listed CommandKind c ≡ some t
 decodes-listed c {t} e = go (listed CommandKind c) e
   where
     go : (o : Option Tree) → thenO o (λ t. sentOnce t) ≡ some t → o ≡ some t
