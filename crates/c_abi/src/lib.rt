@@ -3,13 +3,14 @@ use access_record::Record;
 use c_connection::layout::Bytes;
 ghost use mathlib.Core.Path.{_≡_};
 ghost use mathlib.Core.Bool.{not};
+ghost use Prim.Native.Nat.{_^_, _<_};
 ghost use lib.Dec.{eqb};
 ghost use Rattle.base_integers.specs.Signed.{wordOf};
 ghost use Rattle.signature_sha1.specs.Sha1.{sha1Answer};
 ghost use Rattle.signature_hmac.specs.Hmac.{hmacAnswer};
 ghost use Rattle.c_digest.specs.Written.{Written};
 ghost use Rattle.protocol.specs.Format.{Told};
-ghost use Rattle.c_connection.specs.Layout.{connectedBytes};
+ghost use Rattle.c_connection.specs.Layout.{connectedBytes, connectionAt};
 ghost use Rattle.store_rescue.specs.Rescue.{outcome, rescueOf};
 ghost use Rattle.c_calls.specs.Find.{Find};
 ghost use Rattle.c_abi.specs.Calls.{left, answerCall};
@@ -41,9 +42,9 @@ pub extern "C" fn ridgeladle_answer(
     out: &mut [u8],
     counts: &mut [u64; 2],
 ) -> u32
-    ensures { λ r. ⌜ left r (now (store .exit)) (now (device .exit)) (now (connection .exit)) (now (out .exit)) (now (counts .exit))
+    ensures { λ r. ⌜ (left r (now (store .exit)) (now (device .exit)) (now (connection .exit)) (now (out .exit)) (now (counts .exit))
         ≡ answerCall (now (store .entry)) (now (device .entry)) (now (connection .entry)) (now (readings .entry)) (now (input .entry))
-        (now (out .entry)) (now (counts .entry)) ⌝ }
+        (now (out .entry)) (now (counts .entry))) × (connectionAt (now (connection .entry)) .number < 2 ^ 64) ⌝ }
 {
     let c = c_connection::layout::connection_at(connection);
     let r = device::answer(store, device, readings, c, input, out);

@@ -18,10 +18,10 @@ ghost use Rattle.access_record.specs.Record.{tableOf};
 ghost use Rattle.store_layout.specs.Store.{Good};
 ghost use Rattle.protocol.specs.Frame.{frameOf};
 ghost use Rattle.protocol.specs.Answer.{serve};
-ghost use Rattle.protocol.specs.Box.{box, answers};
+ghost use Rattle.protocol.specs.Box.{box};
 ghost use Rattle.protocol_connection.specs.ConnectionOf.{connectionOf};
 ghost use Rattle.reply_send.specs.Answers.{before, after};
-ghost use Rattle.device_response.specs.Called.{AnswersOrRefuses};
+ghost use Rattle.device_response.specs.Called.{AnswersOrRefuses, AnsweringCall};
 
 // The input answered, once no refusal but MORE and that of the readings is left.
 fn answer_frame(
@@ -84,7 +84,7 @@ pub fn answer(
     input: &[u8],
     out: &mut [u8],
 ) -> Response
-    ensures { λ r. ⌜ AnswersOrRefuses (λ s. answers s (length (now (out .entry))) (now (input .entry)))
+    ensures { λ r. ⌜ AnsweringCall (now (input .entry))
         (before store device readings (connectionOf connection)) out r (after store device readings (connectionOf connection)) ⌝ }
 {
     if out.len() < 4096 {

@@ -2,11 +2,12 @@
 use denote.Ref.{now}
 use mathlib.Core.Path.{_≡_}
 use mathlib.Core.List.{List, _++_}
-use Prim.Native.Nat.{ℕ}
+use Prim.Native.Nat.{ℕ, _^_, _<_}
 use lib.ListN.{length, drop}
 use Rattle.protocol.specs.State as state
 use Rattle.protocol.specs.State.{State, lent}
 use Rattle.protocol.specs.Answer.{Outcome, refused, answered}
+use Rattle.protocol.specs.Box.{answers}
 use Rattle.protocol_connection.specs.ConnectionOf.{connectionOf}
 use Rattle.reply_send.specs.Answers.{LentBytes}
 use Rattle.device_response.specs.declared.Response.{Response}
@@ -47,3 +48,7 @@ afterwards s out (answered bytes after taken) = answering (length bytes) taken a
 -- the connection of t is that of s, and a response with a reply has the one that takes its place
 abbrev pub AnswersOrRefuses : (State → Outcome State) → State → LentBytes → Response → State → Type 0
 AnswersOrRefuses outcome s out r t = called (t .connection) (t .readings) r (t .store) (t .device) (now (out .exit)) ≡ afterwards s (now (out .entry)) (outcome s)
+
+-- the answering call on an input: it answers or refuses as `answers` says; and the number of the connection is a 64-bit word, as its type has it
+abbrev pub AnsweringCall : List ℕ → State → LentBytes → Response → State → Type 0
+AnsweringCall input s out r t = AnswersOrRefuses (λ s. answers s (length (now (out .entry))) input) s out r t × (s .connection .number < 2 ^ 64)

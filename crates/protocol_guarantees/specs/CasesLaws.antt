@@ -1,5 +1,5 @@
 -- Every answered call is one of the cases.
-use Prim.Native.Nat.{ℕ, _+_}
+use Prim.Native.Nat.{ℕ, _+_, _≤_}
 use native.Mathlib.Omega.{arith}
 use mathlib.Core.Path.{_≡_, refl, sym, ap, _∙_, subst}
 use mathlib.Core.Bool.{Bool, true, false, cond, _&&_}
@@ -35,7 +35,7 @@ use Rattle.protocol.specs.Judge.{Result, fails, bothThere, step4, step5, aboveL
 use Rattle.protocol.specs.Passes.{Passes}
 use Rattle.protocol.specs.FaultCode.{FaultCode, nothing, no-algorithm, invalid}
 use Rattle.protocol.specs.FaultLaws.{fault-code}
-use Rattle.protocol.specs.Answer.{Outcome, refused, answered, taking, unlessRefused, reading, respond, serve, answer}
+use Rattle.protocol.specs.Answer.{Reply, reply, Outcome, refused, answered, taking, unlessRefused, reading, respond, serve, answer}
 use Rattle.protocol.specs.Box.{box, answers, aclOf, typeOf, close, judged, decide}
 use Rattle.protocol_guarantees.specs.Cases as cases
 use Rattle.protocol_guarantees.specs.Cases.{writes, Effect, refuses, shows, puts, misses, deletes, sets, secures, Judged, before, after, obeyed, Left, closed, stayed}
@@ -232,3 +232,26 @@ answered-whole s room xs m v rest r s' n d e =
 pub not-closed : (s : State) (room : ℕ) (xs r : List ℕ) (s' : State) (n : ℕ) → answers s room xs ≡ answered r s' n → s .connection .closed ≡ false
 unfolding answer
 not-closed s room xs r s' n e = unrefused (ltb room 4096) (storeGood (s .store)) (tableGood (table s)) (s .connection .closed) (serve box s (length xs) (frameOf xs)) e .2
+
+-- ---- a refused call
+
+served-number : (k : ℕ) (r : Reply State) (t : Bool) (n : ℕ) → cond t (taking k r) (refused 7) ≡ refused n → 1 ≤ n
+served-number k (reply b s) true n e = never (cc)
+served-number k r false n e = let z : 7 ≡ n = cc in omega arith
+
+serve-number : (s : State) (k : ℕ) (f : Framing) (n : ℕ) → serve box s k f ≡ refused n → 1 ≤ n
+serve-number s k more n e = let z : 5 ≡ n = cc in omega arith
+serve-number s k closes n e = served-number k (close s 20) (readingsGood (s .readings)) n e
+serve-number s k (whole m v rest) n e = served-number (9 + length m + length v) (respond box s v (reading box s m)) (readingsGood (s .readings)) n e
+
+-- no refusal has the number 0
+pub refusal-number : (s : State) (room : ℕ) (xs : List ℕ) (n : ℕ) → answers s room xs ≡ refused n → 1 ≤ n
+unfolding answer
+refusal-number s room xs n e = go (ltb room 4096) (storeGood (s .store)) (tableGood (table s)) (s .connection .closed) e
+  where
+    go : (t1 t2 t3 t4 : Bool) → unlessRefused t1 t2 t3 t4 (serve box s (length xs) (frameOf xs)) ≡ refused n → 1 ≤ n
+    go true t2 t3 t4 e = let z : 1 ≡ n = cc in omega arith
+    go false false t3 t4 e = let z : 2 ≡ n = cc in omega arith
+    go false true false t4 e = let z : 3 ≡ n = cc in omega arith
+    go false true true true e = let z : 4 ≡ n = cc in omega arith
+    go false true true false e = serve-number s (length xs) (frameOf xs) n e

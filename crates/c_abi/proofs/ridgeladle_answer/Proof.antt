@@ -1,4 +1,7 @@
 use denote.Ref.{now}
+use mathlib.Core.Path.{subst}
+use Prim.Native.Nat.{_^_, _<_}
+use Rattle.protocol.specs.State.{Connection}
 use Rattle.c_abi.proofs.Steps.{answering-call}
 use Rattle.c_abi.proofs.ridgeladle_answer.Statement.{statement}
 use Rattle.c_abi.proofs.ridgeladle_answer.Tie as tie
@@ -22,7 +25,8 @@ returns : tie.Need-returns
 returns c =
     let z = c .before .before .before .before .before .before .before .before .before .before .before .before .before .before .before .before .before .args in
     let a = c .before .before .before .before .before .before .before .answer in
-    answering-call (now (z .store)) (now (z .device)) (now (z .connection)) (now (z .readings)) (now (z .input)) (now (z .out)) (now (z .counts)) (c .before .before .before .before .before .before .before .before .before .before .before .connection-at .ensures) (a .last .0) (a .last .1 .0) (a .last .1 .1 .1 .1 .1 .0) (a .result) (a .ensures) (c .note .ensures)
+    let at = c .before .before .before .before .before .before .before .before .before .before .before .connection-at in
+    (answering-call (now (z .store)) (now (z .device)) (now (z .connection)) (now (z .readings)) (now (z .input)) (now (z .out)) (now (z .counts)) (at .ensures) (a .last .0) (a .last .1 .0) (a .last .1 .1 .1 .1 .1 .0) (a .result) (a .ensures .0) (c .note .ensures), subst (λ (d : Connection). d .number < 2 ^ 64) (at .ensures) (a .ensures .1))
 
 pub ridgeladle-answer-spec : {M : Type 1} → statement M
 ridgeladle-answer-spec =

@@ -1,6 +1,8 @@
 use denote.Ref.{now}
 use mathlib.Core.Path.{_≡_, sym, ap, _∙_}
 use mathlib.Core.Bool.{true}
+use Prim.Native.Nat.{_^_, _<_}
+use native.Mathlib.Omega.{arith}
 use lib.ListN.{length}
 use borrow.Author.Tests.{lt-ltb, le-ltb, not-true, not-false}
 use Rattle.store_layout.specs.Store.{storeGood}
@@ -20,6 +22,9 @@ use Rattle.device.proofs.answer.Tie as tie
 abbrev state : tie.Start → State
 state z = lent (now (z .args .store)) (now (z .args .device)) (now (z .args .readings)) (connectionOf (z .args .connection))
 
+word : (z : tie.Start) → z .args .connection .number < 2 ^ 64
+word z = omega arith
+
 sound : (c : tie.Else2) → storeGood (now (c .before .before .before .before .before .before .before .before .args .store)) ≡ true
 sound c = sym (c .before .check .ensures) ∙ not-false _ (c .if2 .left)
 
@@ -29,7 +34,7 @@ right c = sym (c .before .record-good .ensures) ∙ not-false _ (c .if3 .left)
 returns : tie.Need-returns
 returns c =
     let z = c .before .before .before .before .before in
-    told-out-short (state z) (now (z .args .out)) (now (z .args .input)) (out-short box (state z) (length (now (z .args .out))) (now (z .args .input)) (lt-ltb _ _ (c .if1 .taken)))
+    (told-out-short (state z) (now (z .args .out)) (now (z .args .input)) (out-short box (state z) (length (now (z .args .out))) (now (z .args .input)) (lt-ltb _ _ (c .if1 .taken))), word z)
 
 check-requires : tie.Need-check-requires
 check-requires c κs = search needs
@@ -40,7 +45,7 @@ same-length c = search needs
 returns-2 : tie.Need-returns-2
 returns-2 c =
     let z = c .before .before .before .before .before .before .before .before in
-    told-store-bad (state z) (now (z .args .out)) (now (z .args .input)) (store-bad box (state z) (length (now (z .args .out))) (now (z .args .input)) (le-ltb _ _ (c .before .before .before .if1 .left)) (sym (c .before .check .ensures) ∙ not-true _ (c .if2 .taken)))
+    (told-store-bad (state z) (now (z .args .out)) (now (z .args .input)) (store-bad box (state z) (length (now (z .args .out))) (now (z .args .input)) (le-ltb _ _ (c .before .before .before .if1 .left)) (sym (c .before .check .ensures) ∙ not-true _ (c .if2 .taken))), word z)
 
 record-good-requires : tie.Need-record-good-requires
 record-good-requires c κs = search needs
@@ -51,7 +56,7 @@ same-length-2 c = search needs
 returns-3 : tie.Need-returns-3
 returns-3 c =
     let z = c .before .before .before .before .before .before .before .before .before .before .before in
-    told-device-bad (state z) (now (z .args .out)) (now (z .args .input)) (device-bad box (state z) (length (now (z .args .out))) (now (z .args .input)) (le-ltb _ _ (c .before .before .before .before .before .before .if1 .left)) (sound (c .before .before .before)) (sym (c .before .record-good .ensures) ∙ not-true _ (c .if3 .taken)))
+    (told-device-bad (state z) (now (z .args .out)) (now (z .args .input)) (device-bad box (state z) (length (now (z .args .out))) (now (z .args .input)) (le-ltb _ _ (c .before .before .before .before .before .before .if1 .left)) (sound (c .before .before .before)) (sym (c .before .record-good .ensures) ∙ not-true _ (c .if3 .taken))), word z)
 
 same-length-3 : tie.Need-same-length-3
 same-length-3 c = search needs
@@ -59,7 +64,7 @@ same-length-3 c = search needs
 returns-4 : tie.Need-returns-4
 returns-4 c =
     let z = c .before .before .before .before .before .before .before .before .before .before .before .before in
-    told-closed (state z) (now (z .args .out)) (now (z .args .input)) (closed-before box (state z) (length (now (z .args .out))) (now (z .args .input)) (le-ltb _ _ (c .before .before .before .before .before .before .before .if1 .left)) (sound (c .before .before .before .before)) (right (c .before)) (c .if4 .taken))
+    (told-closed (state z) (now (z .args .out)) (now (z .args .input)) (closed-before box (state z) (length (now (z .args .out))) (now (z .args .input)) (le-ltb _ _ (c .before .before .before .before .before .before .before .if1 .left)) (sound (c .before .before .before .before)) (right (c .before)) (c .if4 .taken)), word z)
 
 answer-frame-requires : tie.Need-answer-frame-requires
 answer-frame-requires c κs = (c .before .before .before .before .before .before .before .before .before .before .if1 .left, store-decides (now (c .before .before .before .before .before .before .before .before .before .before .before .before .before .before .before .args .store)) .yes (sound (c .before .before .before .before .before .before .before)), right (c .before .before .before .before))
@@ -72,9 +77,11 @@ same-length-5 c = search needs
 
 returns-5 : tie.Need-returns-5
 returns-5 c =
-    let z = c .before .before .before .before .before .before .before .before .before .before .before .before .before .before .before .before .before .before .before .before in
-    c .before .before .before .before .answer-frame .ensures
-    ∙ ap (afterwards (state z) (now (z .args .out))) (sym (not-refused box (state z) (length (now (z .args .out))) (now (z .args .input)) (le-ltb _ _ (c .before .before .before .before .before .before .before .before .before .before .before .before .before .before .before .if1 .left)) (sound (c .before .before .before .before .before .before .before .before .before .before .before .before)) (right (c .before .before .before .before .before .before .before .before .before)) (c .before .before .before .before .before .before .before .before .if4 .left)))
+    let z = c .before .before .before .before .before .before .before .before .before .before .before .before .before .before .before .before .before .before .before .before in (
+      c .before .before .before .before .answer-frame .ensures
+          ∙ ap (afterwards (state z) (now (z .args .out))) (sym (not-refused box (state z) (length (now (z .args .out))) (now (z .args .input)) (le-ltb _ _ (c .before .before .before .before .before .before .before .before .before .before .before .before .before .before .before .if1 .left)) (sound (c .before .before .before .before .before .before .before .before .before .before .before .before)) (right (c .before .before .before .before .before .before .before .before .before)) (c .before .before .before .before .before .before .before .before .if4 .left))),
+      word z,
+    )
 
 pub answer-spec : {M : Type 1} → statement M
 answer-spec =

@@ -1,0 +1,2 @@
+pub mod HostCall
+pub mod HostCallLaws
