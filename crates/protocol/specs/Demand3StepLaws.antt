@@ -25,7 +25,8 @@ use Rattle.protocol.specs.Reply.{replyBytes}
 taking-both : {S : Type 0} (r : Reply S) (a a' : ℕ) → SameBut a a' (taking a r) (taking a' r)
 taking-both (reply x s) a a' = inr (replyBytes x, s, refl, refl)
 
-both : {S : Type 0} (t1 t2 t3 t4 t5 : Bool) (r : Reply S) (a a' : ℕ)
+-- two calls with the same reply, past the same refusals, differ in the count that is taken
+pub both : {S : Type 0} (t1 t2 t3 t4 t5 : Bool) (r : Reply S) (a a' : ℕ)
     → SameBut a a' (unlessRefused t1 t2 t3 t4 (cond t5 (taking a r) (refused 7))) (unlessRefused t1 t2 t3 t4 (cond t5 (taking a' r) (refused 7)))
 both true t2 t3 t4 t5 r a a' = inl (1, refl, refl)
 both false false t3 t4 t5 r a a' = inl (2, refl, refl)

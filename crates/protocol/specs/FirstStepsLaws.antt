@@ -118,8 +118,10 @@ module _ (D : Device) (s : D .State) (m : List ℕ) where
   unfolding readingBy
   reads {i} {key} {sig} {c} p q r = rw (p, q, r, sameBytes-self (D .hmac key c)) refl
 
+  pub steps-decoded : {i : ℕ} {key : List ℕ} {t : Tree} (p : FirstSteps D s m i key t) → decodes (p .commandBytes) ≡ some t
+  steps-decoded {i} {key} {t} p = ap (λ o. thenO o (λ t. sentOnce t)) (p .command-decodes) ∙ ap (λ b. guard b t) (p .security-once)
+
   -- and one that passes them is read
   pub passed-read : {i : ℕ} {key : List ℕ} {t : Tree} → FirstSteps D s m i key t → reading D s m ≡ read i key t
   passed-read {i} {key} {t} p =
-      reads (steps-open p) (p .key-found) refl
-      ∙ ap (decoded i key) (ap (λ o. thenO o (λ t. sentOnce t)) (p .command-decodes) ∙ ap (λ b. guard b t) (p .security-once))
+      reads (steps-open p) (p .key-found) refl ∙ ap (decoded i key) (steps-decoded p)

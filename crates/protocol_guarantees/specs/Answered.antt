@@ -3,8 +3,9 @@ use Prim.Native.Nat.{ℕ, _^_, _<_}
 use mathlib.Core.Path.{_≡_}
 use mathlib.Core.Bool.{true}
 use mathlib.Core.List.{List}
-use mathlib.Core.Option.{Option, some}
-use Rattle.fields_schema.specs.Tree.{Tree}
+use mathlib.Core.Option.{some}
+use Rattle.fields_schema.specs.FieldNumbers.{Command-body}
+use Rattle.fields_schema.specs.Tree.{Tree, subAt}
 use Rattle.access_record.specs.Table as access
 use Rattle.protocol.specs.declared.Operation.{Operation}
 use Rattle.protocol.specs.declared.Asked.the-variants.{Request}
@@ -17,8 +18,8 @@ use Rattle.protocol.specs.Judge.{ReplyBody, fault, keyValueIn, permitted}
 use Rattle.protocol.specs.Passes.{Passes}
 use Rattle.protocol.specs.Answer.{answered, reading}
 use Rattle.protocol.specs.Box.{box, answers, aclOf, typeOf}
-use Rattle.protocol.specs.ReplyFits.{Says}
-use Rattle.protocol.specs.PartsRead.{Found}
+use Rattle.protocol.specs.Says.{Says}
+use Rattle.protocol.specs.PartsRead.{bodyRead, codeRead}
 
 -- the command t asks for the operation
 abbrev pub Asks : Tree → Operation → Type 0
@@ -58,7 +59,5 @@ pub record Replies (r : List ℕ) (code : ℕ) (body : ReplyBody) (value : List 
   pub message : Tree
   pub command : Tree
   pub says : Says r message command value
-  pub connection : ℕ
-  pub ack : Option ℕ
-  pub type : Option ℕ
-  pub found : Found command connection ack type body code
+  pub code-read : codeRead command ≡ some code
+  pub body-read : bodyRead (subAt Command-body command) ≡ body

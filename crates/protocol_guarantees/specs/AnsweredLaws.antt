@@ -5,7 +5,7 @@ use mathlib.Core.Logic.{_⊎_, inl, inr}
 use mathlib.Core.List.{List, []}
 use mathlib.Core.Option.{Option, none, some}
 use lib.ListN.{length}
-use Rattle.fields_schema.specs.Tree.{mapO, thenO, Tree, listed, intAt, rawAt, subAt}
+use Rattle.fields_schema.specs.Tree.{mapO, Tree, listed, rawAt, subAt}
 use Rattle.fields_schema.specs.declared.Kind.the-variants.{Message, ReplyCommand}
 use Rattle.fields_encoding.specs.BasicLaws.{never}
 use Rattle.store_layout.specs.CheckLaws.{store-decides}
@@ -20,11 +20,13 @@ use Rattle.protocol.specs.Judge.{ReplyBody, Result, judge}
 use Rattle.protocol.specs.Reply.{signedReply, commandTree, replyTree}
 use Rattle.protocol.specs.Answer.{answered, taking, respond}
 use Rattle.protocol.specs.Box.{box, aclOf, sequenceOf, typeOf, judged, decide, messageIn, replyTo}
-use Rattle.protocol.specs.Readable.{SaysReply}
-use Rattle.protocol.specs.PartsRead.{bodyRead}
-use Rattle.protocol.specs.PartsBackLaws.{parts-found}
+use Rattle.protocol.specs.Reading.{read}
+use Rattle.protocol.specs.ReplyContent.{judgedBy}
+use Rattle.protocol.specs.Readable.{SaysReply, Gives}
+use Rattle.protocol.specs.PartsRead.{bodyRead, codeRead}
+use Rattle.protocol.specs.PartsBackLaws.{reply-gives}
 use Rattle.protocol.specs.ReadBackLaws.{reply-says}
-use Rattle.protocol.specs.ReadingLaws.{read-passed}
+use Rattle.protocol.specs.FirstStepsLaws.{steps-passed}
 use Rattle.protocol_guarantees.specs.Answered.{Asks, Answered, Admitted, Replies}
 use Rattle.protocol_guarantees.specs.Cases.{Judged, before, after, obeyed, Came}
 use Rattle.protocol_guarantees.specs.CasesLaws.{judge-cases, answered-whole}
@@ -41,9 +43,9 @@ one-reply {r} {code} {code'} {b} {b'} {x} {x'} p q =
     let same-carried : p .says .commandBytes ≡ q .says .commandBytes = cc in
     let t : some (p .command) ≡ some (q .command) = sym (p .says .command-read) ∙ ap (listed ReplyCommand) same-carried ∙ q .says .command-read in
     let same-command : p .command ≡ q .command = cc in
-    let n : some code ≡ some code' = sym (p .found .code-found) ∙ ap (λ t. thenO (subAt 3 t) (λ s. intAt 1 s)) same-command ∙ q .found .code-found in
+    let n : some code ≡ some code' = sym (p .code-read) ∙ ap codeRead same-command ∙ q .code-read in
     let same-code : code ≡ code' = cc in
-    (same-code, sym (p .found .body-found) ∙ ap (λ t. bodyRead (subAt 2 t)) same-command ∙ q .found .body-found, same-value)
+    (same-code, sym (p .body-read) ∙ ap (λ t. bodyRead (subAt 2 t)) same-command ∙ q .body-read, same-value)
 
 map-some : {A B : Type 0} (f : A → B) (o : Option A) {b : B} → mapO f o ≡ some b → (a : A) × (o ≡ some a)
 map-some f none e = never (cc)
@@ -58,7 +60,7 @@ came {s} {t} {v} {r} {s'} a =
     let xs = a .input in
     let k = 9 + length m + length v in
     let u = answered-whole s (a .room) xs m v (a .rest) r s' (a .taken) (a .framed) (a .answer) in
-    let known = map-some (λ x. x .key) (aclOf s i) (read-passed s m i key t (a .reads) .known) in
+    let known = map-some (λ x. x .key) (aclOf s i) (steps-passed box s m (a .reads) .key-found) in
     let j = judge s (known .0) (commandOf t) v in
     let tree = commandTree (s .connection .number) (sequenceOf (commandOf t .header)) (replyType (askedBy (typeOf (commandOf t .header)))) (j .body) (j .code) in
     let e : answered (signedReply i key tree (j .value)) (j .state) k ≡ answered r s' (a .taken) =
@@ -70,6 +72,7 @@ came {s} {t} {v} {r} {s'} a =
     ∙ sym (ap (replyTo s) (a .framed)) ∙ x .is in
     let same : messageIn (judged s i key (commandOf t) v (some (known .0))) ≡ x .message = cc in
     let says = subst (SaysReply r) (sym same) (x .says) in
+    let gives = subst (λ o. Gives (s .connection .number) (messageIn (judged s i key (commandOf t) v o)) (judgedBy s i key (commandOf t) v o)) (known .1) (reply-gives s v (read i key t)) in
     record {
       acl = known .0;
       known = known .1;
@@ -81,10 +84,8 @@ came {s} {t} {v} {r} {s'} a =
             message = replyTree (messageIn (judged s i key (commandOf t) v (some (known .0))));
             command = tree;
             says = says;
-            connection = s .connection .number;
-            ack = sequenceOf (commandOf t .header);
-            type = some (replyType (askedBy (typeOf (commandOf t .header))));
-            found = parts-found (s .connection .number) (sequenceOf (commandOf t .header)) (replyType (askedBy (typeOf (commandOf t .header)))) (j .body) (j .code);
+            code-read = gives .code;
+            body-read = gives .body;
           };
     }
 

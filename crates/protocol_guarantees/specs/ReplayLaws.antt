@@ -19,18 +19,17 @@ use Rattle.protocol.specs.State.{State, withClosed, withSequence, accepted}
 use Rattle.protocol.specs.Command.{Body, commandOf}
 use Rattle.protocol.specs.Frame.{frameOf, whole}
 use Rattle.protocol.specs.Reading as reads
-use Rattle.protocol.specs.Reading.{read, decodes, decoded, verified, opened, readingBy}
+use Rattle.protocol.specs.Reading.{envelope, readMessage, read, decodes, decoded, verified, opened, readingBy}
 use Rattle.protocol.specs.Judge.{ReplyBody, bare, Result, above, aboveLast, judge}
 use Rattle.protocol.specs.Passes.{Passes}
-use Rattle.protocol.specs.Passed.{Passed}
 use Rattle.protocol.specs.AcceptedLaws.{counted, not-above-self}
 use Rattle.protocol.specs.Reply.{closingWith, closingReply, closingCommand, replyTree}
 use Rattle.protocol.specs.Answer.{answered, taking, reading, respond}
 use Rattle.protocol.specs.Box.{box, answers, messageIn, replyTo}
 use Rattle.protocol.specs.Readable.{SaysReply}
-use Rattle.protocol.specs.PartsBackLaws.{closing-found}
 use Rattle.protocol.specs.ReadBackLaws.{reply-says}
-use Rattle.protocol.specs.ReadingLaws.{read-passed}
+use Rattle.protocol.specs.FirstSteps.{FirstSteps}
+use Rattle.protocol.specs.FirstStepsLaws.{steps-passed, steps-open, steps-decoded}
 use Rattle.protocol_guarantees.specs.Answered.{Answered, Replies}
 use Rattle.protocol_guarantees.specs.Later.{Later}
 use Rattle.protocol_guarantees.specs.Cases as cases
@@ -114,17 +113,18 @@ later-past q h (Later.elsewhere s'' l e) = ap (λ (c : state.Connection). aboveL
 abbrev Again : ℕ → Tree → reads.Reading → Type 0
 Again i t d = (d ≡ reads.closing 2) ⊎ ((key : List ℕ) × (d ≡ read i key t))
 
-again : (keyOf keyOf' : ℕ → Option (List ℕ)) (m : List ℕ) {i : ℕ} {key : List ℕ} {t : Tree} → Passed hmac keyOf m i key t → Again i t (readingBy hmac keyOf' m)
+again : (keyOf : ℕ → Option (List ℕ)) (m : List ℕ) {i : ℕ} {t : Tree} (sig c : List ℕ) → readMessage m ≡ some (envelope i sig c) → decodes c ≡ some t
+    → Again i t (readingBy hmac keyOf m)
 unfolding readingBy
-again keyOf keyOf' m {i} {key} {t} p = subst (Again i t) (sym (ap (opened hmac keyOf') (p .message))) (go (keyOf' i))
+again keyOf m {i} {t} sig c e says = subst (Again i t) (sym (ap (opened hmac keyOf) e)) (go (keyOf i))
   where
-    tested : (key' : List ℕ) (b : Bool) → Again i t (cond b (decoded i key' (decodes (p .command))) (reads.closing 2))
-    tested key' true = inr (key', ap (decoded i key') (p .says))
+    tested : (key' : List ℕ) (b : Bool) → Again i t (cond b (decoded i key' (decodes c)) (reads.closing 2))
+    tested key' true = inr (key', ap (decoded i key') says)
     tested key' false = inl refl
 
-    go : (o : Option (List ℕ)) → Again i t (verified hmac keyOf' i (p .sig) (p .command) o)
+    go : (o : Option (List ℕ)) → Again i t (verified hmac keyOf i sig c o)
     go none = inl refl
-    go (some key') = tested key' (sameBytes (p .sig) (hmac key' (p .command)))
+    go (some key') = tested key' (sameBytes sig (hmac key' c))
 
 -- a message with HMAC_FAILURE: the connection is closed, and the reply says so
 module _ (s : State) (room : ℕ) (xs m v rest r : List ℕ) (s' : State) (n : ℕ) (d : frameOf xs ≡ whole m v rest) (e : answers s room xs ≡ answered r s' n)
@@ -147,10 +147,8 @@ module _ (s : State) (room : ℕ) (xs m v rest r : List ℕ) (s' : State) (n : �
         message = replyTree (closingWith (s .connection .number) 2);
         command = closingCommand (s .connection .number) 2;
         says = subst (SaysReply r) (sym z) (x .says);
-        connection = s .connection .number;
-        ack = none;
-        type = none;
-        found = closing-found (s .connection .number) 2;
+        code-read = refl;
+        body-read = refl;
       }
 
 -- A MESSAGE IS NEVER OBEYED TWICE: sent again on its connection after its sequence was accepted, with whatever value part and whatever came between, it changes
@@ -160,8 +158,11 @@ pub never-obeyed-twice : {s s' s₂ s₃ : State} {t : Tree} {v r : List ℕ} {q
     → (room : ℕ) (xs v' rest r' : List ℕ) (n : ℕ) → frameOf xs ≡ whole (a .message) v' rest → answers s₂ room xs ≡ answered r' s₃ n
     → ((s₃ ≡ s₂) ⊎ (s₃ ≡ state.closing s₂)) × ((b : ReplyBody) (x : List ℕ) → Replies r' SUCCESS b x → ⊥)
 never-obeyed-twice {s} {s'} {s₂} {s₃} {t} {v} {r} {q} a h l room xs v' rest r' n d e =
-    go (again (box .keyOf s) (box .keyOf s₂) (a .message) (read-passed s (a .message) (a .identity) (a .key) t (a .reads)))
+    go (again (box .keyOf s₂) (a .message) (hmac (a .key) (p .commandBytes)) (p .commandBytes) (steps-open box s (a .message) p) (steps-decoded box s (a .message) p))
   where
+    p : FirstSteps box s (a .message) (a .identity) (a .key) t
+    p = steps-passed box s (a .message) (a .reads)
+
     left : s' .connection ≡ withSequence (s .connection) q
     left = ap (λ s. s .connection) (sym (came a .state)) ∙ counted s (came a .acl) (commandOf t) v q h
 

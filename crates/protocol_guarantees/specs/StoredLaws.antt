@@ -32,8 +32,9 @@ use Rattle.protocol.specs.StatusCode.{SUCCESS, NOT_FOUND}
 use Rattle.protocol.specs.State.{State, entries, accepted}
 use Rattle.protocol.specs.Command.{KeyValue, Body, commandOf}
 use Rattle.protocol.specs.Judge.{ReplyBody, bare, keyValue, Result, present, keyValueGood, changeGood, broken, fault, noKeyValue, keyValueIn, entryAt, entryOf, shown, versionOf, newEntry, permitted, step10, judge}
+use Rattle.protocol.specs.Box.{box}
 use Rattle.protocol.specs.AlgorithmLaws.{algorithm-most}
-use Rattle.protocol.specs.ReadingLaws.{read-passed}
+use Rattle.protocol.specs.FirstStepsLaws.{steps-passed, steps-decoded}
 use Rattle.protocol_guarantees.specs.Answered.{Asks, keyValueSent, Answered, Admitted, Replies}
 use Rattle.protocol_guarantees.specs.Later.{Spared}
 use Rattle.protocol_guarantees.specs.Cases.{Effect, refuses, shows, puts, misses, deletes, Judged, before, after, obeyed}
@@ -120,8 +121,8 @@ module _ {s : State} {t : Tree} {v r : List ℕ} {s' : State} (a : Answered s t 
       go q f y (refuses n) z = absurd (n z)
       go q f y (shows n) z = never (cc)
       go q f y (puts w g) z =
-          let p = read-passed s (a .message) (a .identity) (a .key) t (a .reads) in
-          let fit = fit-new (commandOf t .body) v f (algorithm-most (p .command) t (p .says)) in
+          let p = steps-passed box s (a .message) (a .reads) in
+          let fit = fit-new (commandOf t .body) v f (algorithm-most (p .commandBytes) t (steps-decoded box s (a .message) p)) in
           ap (under (sent .key)) (put-kept (s .store) (came a .stored) e (g fit) .entries) ∙ put-under (sent .key) e (entries s) ∙ own-key (sent .key) (under (sent .key) (entries s)) (some e)
 
   -- NO LOST UPDATE: without force it named the version that was stored, or none for a new key
