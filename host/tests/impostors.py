@@ -1,6 +1,9 @@
 """The client commands against servers that are none: nobody there, rubbish, replies that are cut, late, or not what a box of that key would send."""
+import contextlib
 import socket
+import subprocess
 import threading
+import time
 
 import layout
 import model
@@ -22,13 +25,15 @@ class Slowly(bytes):
 
 class Impostor(threading.Thread):
     """Takes one connection. It answers as the model does, but each reply goes through `spoil`, which is given the number of the reply and its bytes, and
-    gives what is sent instead; None leaves the connection open and silent."""
+    gives what is sent instead; None leaves the connection open and silent. `asked` is set once it has got a request, `left` is whether it saw the client leave
+    a connection that was silent or slow."""
 
     def __init__(self, spoil):
         super().__init__(daemon=True)
         self.spoil, self.listener = spoil, socket.create_server(("127.0.0.1", 0))
         self.listener.settimeout(WAIT)
         self.port, self.over = self.listener.getsockname()[1], threading.Event()
+        self.asked, self.left = threading.Event(), False
         self.start()
 
     def run(self):
@@ -51,21 +56,24 @@ class Impostor(threading.Thread):
             if got.refusal:
                 continue
             data, count = data[got.taken:], count + 1
+            self.asked.set()
             sent = self.spoil(count, got.reply)
-            if sent is None:
-                self.over.wait(WAIT)
-                return
-            if isinstance(sent, Slowly):
-                return self.drip(peer, sent)
+            if sent is None or isinstance(sent, Slowly):
+                return self.drip(peer, sent or b"")
             peer.sendall(sent)
             if isinstance(sent, Last):
                 return
 
     def drip(self, peer, data):
-        for n in range(len(data)):
-            if self.over.wait(PAUSE):
-                return
-            peer.sendall(data[n:n + 1])
+        """Sends the bytes slowly, if there are any, and waits for the client to leave."""
+        try:
+            for n in range(len(data)):
+                if self.over.wait(PAUSE):
+                    break
+                peer.sendall(data[n:n + 1])
+            self.left = peer.recv(1) == b""
+        except ConnectionError:
+            self.left = True
 
     def end(self):
         self.over.set()
@@ -113,18 +121,47 @@ WAYS = {"another key at once": (65, lambda count, reply: resigned(reply, b"anoth
 SLOW = {"silent", "silent before the reply", "a byte now and then"}
 
 
+def noop(port, seconds):
+    return "noop", "--server", f"127.0.0.1:{port}", "--key-file", "key", "--timeout", str(seconds)
+
+
+@contextlib.contextmanager
+def patient(site):
+    """A client that waits for a silent server, and has minutes for it."""
+    impostor = Impostor(lambda count, reply: None)
+    words = [site.program, *noop(impostor.port, PATIENCE)]
+    with subprocess.Popen(words, stdin=subprocess.DEVNULL, stdout=subprocess.DEVNULL, stderr=subprocess.DEVNULL, cwd=site.folder) as client:
+        try:
+            hold("a client with minutes asks", impostor.asked.wait(PATIENCE))
+            yield client
+        finally:
+            client.kill()
+            impostor.end()
+
+
+def in_time(site, way, impostor):
+    """A client with --timeout 1 at a server that is silent or slow ends after a second or more, by itself, and before one that has minutes and asked earlier."""
+    with patient(site) as other:
+        began = time.monotonic()
+        done = site.run(*noop(impostor.port, 1))
+        hold(f"{way}: the client ended before its second was over", time.monotonic() - began >= 1)
+        hold(f"{way}: a client that has minutes ended before one that has a second", other.poll() is None)
+    impostor.end()
+    hold(f"{way}: the server did not see the client leave", impostor.left)
+    return done
+
+
 def impostors(site):
-    """Servers that are no box of that key: the client ends with the code of docs/OPERATING.md, in time, and prints nothing on standard output."""
+    """Servers that are no box of that key: the client ends with the code of docs/OPERATING.md, in its time, and prints nothing on standard output."""
     for way, (code, spoil) in WAYS.items():
         impostor = Impostor(spoil)
-        seconds = 1 if way in SLOW else PATIENCE
-        done = site.run("noop", "--server", f"127.0.0.1:{impostor.port}", "--key-file", "key", "--timeout", str(seconds))
+        done = in_time(site, way, impostor) if way in SLOW else site.run(*noop(impostor.port, PATIENCE))
         impostor.end()
         same(f"{way}: exit code and output, with {done.err!r}", done[:2], (code, b"SUCCESS\n" if code == 0 else b""))
         hold(f"{way}: a message on standard error: {done.err!r}", (code == 0) == (done.err == ""))
-    done = site.run("noop", "--server", f"127.0.0.1:{free_port()}", "--key-file", "key", "--timeout", "1")
+    done = site.run(*noop(free_port(), 1))
     same(f"nobody there: exit code and output, with {done.err!r}", done[:2], (69, b""))
-    return f"{len(WAYS) + 1} servers that are none: exit codes and output"
+    return f"{len(WAYS) + 1} servers that are none: exit codes and output; of {len(SLOW)} that are silent or slow a client with --timeout 1 leaves in time"
 
 
 def free_port():
