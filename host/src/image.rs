@@ -12,8 +12,10 @@ const LAYOUT: u8 = 2;
 const SEAL: usize = 56;
 const HEAD: usize = 64;
 const STORE: usize = HEAD + RECORD;
+/// A store is compared in pieces of so many bytes.
+const PIECE: usize = 8 * BLOCK;
 
-#[derive(Clone, PartialEq)]
+#[derive(Clone)]
 pub struct Image {
     pub record: [u8; RECORD],
     pub store: Vec<u8>,
@@ -65,18 +67,45 @@ impl Image {
         self.store.chunks(BLOCK).take_while(|block| block[0] != 0).count()
     }
 
-    pub fn bytes(&self) -> Vec<u8> {
-        let mut bytes = Vec::with_capacity(STORE + self.store.len());
-        bytes.extend(MAGIC);
-        bytes.push(LAYOUT);
-        bytes.extend((self.blocks() as u32).to_be_bytes());
-        bytes.extend((self.used() as u32).to_be_bytes());
-        bytes.extend(digest(&self.record));
-        bytes.extend(digest(&self.store));
-        bytes.extend(seal(&bytes));
-        bytes.extend(self.record);
-        bytes.extend(&self.store);
-        bytes
+    /// Becomes another image of as many blocks, and copies no more than what differs; whether anything did.
+    pub fn follow(&mut self, other: &Image) -> bool {
+        let mut differs = self.record != other.record;
+        if differs {
+            self.record = other.record;
+        }
+        for (mine, theirs) in self.store.chunks_mut(PIECE).zip(other.store.chunks(PIECE)) {
+            if mine != theirs {
+                mine.copy_from_slice(theirs);
+                differs = true;
+            }
+        }
+        differs
+    }
+}
+
+/// The bytes of the last image that was written, into which the next one is put.
+#[derive(Default)]
+pub struct Written(Vec<u8>);
+
+impl Written {
+    /// The bytes of an image. Few changes are of the record: where it stands here already, so does its digest.
+    pub fn next(&mut self, image: &Image) -> &[u8] {
+        let known = self.0.get(HEAD..STORE).is_some_and(|record| record == image.record);
+        self.0.resize(STORE + image.store.len(), 0);
+        let (head, rest) = self.0.split_at_mut(HEAD);
+        if !known {
+            head[16..36].copy_from_slice(&digest(&image.record));
+            rest[..RECORD].copy_from_slice(&image.record);
+        }
+        rest[RECORD..].copy_from_slice(&image.store);
+        head[..7].copy_from_slice(&MAGIC);
+        head[7] = LAYOUT;
+        head[8..12].copy_from_slice(&(image.blocks() as u32).to_be_bytes());
+        head[12..16].copy_from_slice(&(image.used() as u32).to_be_bytes());
+        head[36..SEAL].copy_from_slice(&digest(&image.store));
+        let seal = seal(head);
+        head[SEAL..].copy_from_slice(&seal);
+        &self.0
     }
 }
 
@@ -138,5 +167,39 @@ impl Found {
         ];
         let damage = faults.into_iter().filter(|(is, _)| *is).map(|(_, words)| words).collect();
         Some(Found { image, record_sound, used, damage })
+    }
+}
+
+#[cfg(test)]
+mod tests {
+    use super::*;
+
+    fn image(blocks: usize) -> Image {
+        Image { record: [1; RECORD], store: vec![2; blocks * BLOCK] }
+    }
+
+    #[test]
+    fn what_is_written_does_not_depend_on_what_was_before() {
+        let [mut other_record, mut other_store] = [image(9), image(9)];
+        other_record.record[RECORD - 1] = 0;
+        other_store.store[8 * BLOCK] = 0;
+        let mut written = Written::default();
+        for next in [image(9), other_record, image(9), other_store, image(1), image(128), image(9)] {
+            assert!(written.next(&next) == Written::default().next(&next));
+        }
+    }
+
+    #[test]
+    fn an_image_follows_another_wherever_they_differ() {
+        for blocks in [1, 8, 9, 128] {
+            let places =
+                [0, RECORD - 1].into_iter().chain((0..blocks).flat_map(|block| [0, BLOCK - 1].map(|at| RECORD + block * BLOCK + at)));
+            for place in places {
+                let (mut mine, mut other) = (image(blocks), image(blocks));
+                *if place < RECORD { &mut other.record[place] } else { &mut other.store[place - RECORD] } = 3;
+                assert!(mine.follow(&other) && mine.record == other.record && mine.store == other.store);
+                assert!(!mine.follow(&other));
+            }
+        }
     }
 }

@@ -6,8 +6,14 @@ use crate::log::{Level, Log};
 use crate::place::Place;
 use std::sync::{Arc, Condvar, Mutex, MutexGuard, OnceLock, PoisonError};
 
-/// Changes that go to disk together: whether they got there, once that is known.
-type Turn = Arc<OnceLock<bool>>;
+/// Changes that go to disk together.
+#[derive(Default)]
+struct Turn {
+    /// Whether they got there, once that is known.
+    kept: OnceLock<bool>,
+    /// Wakes who waits for that: one to write, when those before are written, and all in the end.
+    called: Condvar,
+}
 
 struct Held {
     image: Image,
@@ -16,8 +22,8 @@ struct Held {
     on_disk: Image,
     readings: [u8; READINGS],
     /// Changes that no one is writing yet, and those that someone is writing now.
-    waiting: Option<Turn>,
-    writing: Option<Turn>,
+    waiting: Option<Arc<Turn>>,
+    writing: Option<Arc<Turn>>,
     ended: bool,
     warned: Warned,
 }
@@ -31,7 +37,6 @@ struct Warned {
 
 pub struct Keeper {
     held: Mutex<Held>,
-    written: Condvar,
     place: Place,
     log: Arc<Log>,
 }
@@ -40,7 +45,7 @@ pub struct Keeper {
 pub struct Answers {
     pub taken: usize,
     /// What the replies wait for; none where all of it is on disk.
-    turn: Option<Turn>,
+    turn: Option<Arc<Turn>>,
     /// The refusal that ended it, MORE for one.
     pub refusal: u32,
 }
@@ -50,7 +55,7 @@ impl Keeper {
         let (seen, on_disk, readings) = (image.clone(), image.clone(), [0; READINGS]);
         let mut held = Held { image, seen, on_disk, readings, waiting: None, writing: None, ended: false, warned: Warned::default() };
         let warning = held.room();
-        let keeper = Keeper { held: Mutex::new(held), written: Condvar::new(), place, log };
+        let keeper = Keeper { held: Mutex::new(held), place, log };
         keeper.warn(warning);
         keeper
     }
@@ -84,29 +89,35 @@ impl Keeper {
 
     /// Whether what was answered is on disk. Who waits first writes for all that wait; false where the disk refused, and the changes were taken back.
     pub fn settle(&self, answers: &Answers) -> bool {
-        let Some(turn) = &answers.turn else { return true };
-        let mut held = self.lock();
-        loop {
-            if let Some(kept) = turn.get() {
-                return *kept;
-            }
-            held = self.wait_or_write(held);
-        }
+        answers.turn.as_ref().is_none_or(|turn| self.written(turn))
+    }
+
+    /// For when the replies are sent: what was put off until then.
+    pub fn tidy(&self) {
+        self.place.tidy();
     }
 
     /// Nothing is answered from here on; when this returns, nothing waits for the disk.
     pub fn end(&self) {
         let mut held = self.lock();
         held.ended = true;
-        while held.waiting.is_some() || held.writing.is_some() {
-            held = self.wait_or_write(held);
+        let last = held.last_turn();
+        drop(held);
+        if let Some(turn) = last {
+            self.written(&turn);
         }
     }
 
-    fn wait_or_write<'a>(&'a self, held: MutexGuard<'a, Held>) -> MutexGuard<'a, Held> {
-        match held.writing {
-            Some(_) => self.written.wait(held).unwrap_or_else(PoisonError::into_inner),
-            None => self.write(held),
+    fn written(&self, turn: &Turn) -> bool {
+        let mut held = self.lock();
+        loop {
+            if let Some(kept) = turn.kept.get() {
+                return *kept;
+            }
+            held = match held.writing {
+                Some(_) => turn.called.wait(held).unwrap_or_else(PoisonError::into_inner),
+                None => self.write(held),
+            };
         }
     }
 
@@ -121,7 +132,6 @@ impl Keeper {
         }
         let mut held = self.lock();
         held.finish(image, outcome.is_ok());
-        self.written.notify_all();
         held
     }
 }
@@ -142,8 +152,7 @@ impl Held {
             }
         };
         let mut warning = None;
-        if self.image != self.seen {
-            self.seen.clone_from(&self.image);
+        if self.seen.follow(&self.image) {
             self.waiting.get_or_insert_default();
             warning = self.room();
         }
@@ -151,7 +160,11 @@ impl Held {
             self.warned.full = true;
             warning = Some(format!("a PUT was answered NO_SPACE: all {} blocks are used", self.image.blocks()));
         }
-        (Answers { taken, turn: self.waiting.clone().or(self.writing.clone()), refusal }, warning)
+        (Answers { taken, turn: self.last_turn(), refusal }, warning)
+    }
+
+    fn last_turn(&self) -> Option<Arc<Turn>> {
+        self.waiting.clone().or(self.writing.clone())
     }
 
     /// A warning where nine of ten blocks have come to be used.
@@ -168,11 +181,15 @@ impl Held {
         if kept {
             self.on_disk = image;
         } else {
-            self.image.clone_from(&self.on_disk);
-            self.seen.clone_from(&self.on_disk);
+            self.image.follow(&self.on_disk);
+            self.seen.follow(&self.on_disk);
+        }
+        if let Some(next) = &self.waiting {
+            next.called.notify_one();
         }
         for turn in done.into_iter().flatten() {
-            let _ = turn.set(kept);
+            let _ = turn.kept.set(kept);
+            turn.called.notify_all();
         }
     }
 }

@@ -2,7 +2,7 @@
 //! synced: so whoever reads the file, at whatever moment, after whatever kill, finds a whole image, and no code is needed to mend one.
 
 use crate::failure::{Failure, Result};
-use crate::image::Image;
+use crate::image::{Image, Written};
 use crate::system::{O_NOFOLLOW, O_NONBLOCK};
 use std::ffi::OsString;
 use std::fs::{File, Metadata, OpenOptions, Permissions, TryLockError, hard_link, remove_file, rename, symlink_metadata};
@@ -20,12 +20,15 @@ pub struct Place {
     /// Holds back programs that make an image, where there is none to be locked yet, and those of before, which lock nothing else.
     _lock: File,
     files: Mutex<Files>,
+    /// The file that was the image last, where it has no name any more.
+    spent: Mutex<Option<File>>,
 }
 
 /// The file that is the image, and those that were and have another name still, all locked: a second server is refused by whatever name.
 struct Files {
     now: Option<File>,
     former: Vec<File>,
+    written: Written,
 }
 
 impl Place {
@@ -50,7 +53,8 @@ impl Place {
         let folder = File::open(folder).map_err(|why| Failure::file(folder, why))?;
         let lock = lock_beside(&path)?;
         let now = locked_file(&path)?;
-        Ok(Place { path, folder, _lock: lock, files: Mutex::new(Files { now, former: Vec::new() }) })
+        let files = Files { now, former: Vec::new(), written: Written::default() };
+        Ok(Place { path, folder, _lock: lock, files: Mutex::new(files), spent: Mutex::new(None) })
     }
 
     fn files(&self) -> MutexGuard<'_, Files> {
@@ -96,12 +100,15 @@ impl Place {
 
     /// Writes FILE.new, whole, synced and locked; where that fails nothing is left of it.
     fn write_new(&self, image: &Image, like: Option<&Metadata>) -> io::Result<File> {
-        // What a server left that was killed may have another owner or mode.
-        remove_file(self.new_name()).or_else(|why| if why.kind() == ErrorKind::NotFound { Ok(()) } else { Err(why) })?;
-        let mut file = OpenOptions::new().write(true).create_new(true).mode(0o600).open(self.new_name())?;
+        let make = || OpenOptions::new().write(true).create_new(true).mode(0o600).open(self.new_name());
+        let mut file = match make() {
+            // What a server left that was killed may have another owner or mode.
+            Err(why) if why.kind() == ErrorKind::AlreadyExists => remove_file(self.new_name()).and_then(|()| make())?,
+            made => made?,
+        };
         let mut written = || {
             file.try_lock()?;
-            file.write_all(&image.bytes())?;
+            file.write_all(self.files().written.next(image))?;
             like.map_or(Ok(()), |like| make_alike(&file, like))?;
             file.sync_all()
         };
@@ -118,8 +125,18 @@ impl Place {
     fn put_in_place(&self, new: File) -> io::Result<()> {
         let mut files = self.files();
         files.at(&self.path).and_then(|()| rename(self.new_name(), &self.path)).inspect_err(|_| self.give_up())?;
-        files.follow(new);
+        *self.spent() = files.follow(new);
         self.folder.sync_all()
+    }
+
+    fn spent(&self) -> MutexGuard<'_, Option<File>> {
+        self.spent.lock().unwrap_or_else(PoisonError::into_inner)
+    }
+
+    /// Closes the file that was the image last. The system then frees what it took, which may take as long as a sync: time for it is when nobody waits.
+    pub fn tidy(&self) {
+        let spent = self.spent().take();
+        drop(spent);
     }
 
     /// Gives a file a further name, the image's with an ending, counting up where that is taken; gives the name.
@@ -153,14 +170,19 @@ impl Files {
         }
     }
 
-    fn follow(&mut self, new: File) {
+    /// Gives the file that was the image, where it has no name any more.
+    fn follow(&mut self, new: File) -> Option<File> {
         let named = |file: &File| file.metadata().is_ok_and(|file| file.nlink() > 0);
-        let Some(old) = self.now.replace(new).filter(named) else { return };
+        let old = self.now.replace(new)?;
+        if !named(&old) {
+            return Some(old);
+        }
         self.former.retain(named);
         if self.former.len() == MOST_FORMER {
             self.former.remove(0);
         }
         self.former.push(old);
+        None
     }
 }
 

@@ -166,6 +166,7 @@ impl Server {
             if !write_until(stream, &replies, self.deadline(&connection, begun))? {
                 return Ok(self.late(&connection, "it took no reply"));
             }
+            self.keeper.tidy();
             if library::closed(&connection) {
                 return farewell(stream).map(|()| End::Closed);
             }

@@ -1,5 +1,6 @@
 """The program as processes: commands that are run to their end, and servers. Every test has a folder of its own, a Site, which ends what was started in it."""
 import collections
+import contextlib
 import os
 import pathlib
 import random
@@ -66,6 +67,14 @@ class Server:
     def status(self, name):
         """A number of /proc/PID/status: Threads, or VmRSS in kB."""
         return int(re.search(rf"^{name}:\s+(\d+)", pathlib.Path(f"/proc/{self.pid}/status").read_text(), re.M)[1])
+
+    def nameless(self):
+        """How many files it has open that have no name any more."""
+        links = []
+        for entry in os.scandir(f"/proc/{self.pid}/fd"):
+            with contextlib.suppress(FileNotFoundError):
+                links.append(os.readlink(entry.path))
+        return sum(link.endswith(" (deleted)") for link in links)
 
     def running(self):
         return self.process.poll() is None

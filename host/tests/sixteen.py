@@ -8,7 +8,7 @@ import time
 
 import layout
 import model
-from held import Failed, hold, same
+from held import Failed, hold, same, soon
 from messages import log_tree
 from wire import Client, command_of, pair, setup, span
 
@@ -151,7 +151,7 @@ def after_all(workers, chains):
 
 def sixteen(site):
     """Sixteen connections at once, on own and shared keys: own replies are the model's, shared versions form one chain that all replies and the clock agree
-    with, and the image is the model's after it."""
+    with, the image is the model's after it, and no file that it replaced stays open."""
     path = site.image(model.Box(bytes(128 * model.BLOCK), model.record_of(table())))
     server = site.serve(path)
     workers = [Worker(server, place, 400 if site.thorough else 60, site.random.random()) for place in range(WORKERS)]
@@ -161,6 +161,7 @@ def sixteen(site):
         worker.join()
     for worker in workers:
         hold(f"connection {worker.prefix}: {worker.failure}", worker.failure is None)
+    soon("the files that were the image are closed", lambda: server.nameless() == 0)
     events = [event for worker in workers for event in worker.events]
     chains = []
     for key in SHARED:
