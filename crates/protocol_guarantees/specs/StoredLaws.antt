@@ -19,7 +19,7 @@ use Rattle.store_block.specs.OrderLaws.{cmp-refl}
 use Rattle.store_block.specs.Entry.{Entry, Fit}
 use Rattle.store_layout.specs.declared.Found.{Found}
 use Rattle.store_layout.specs.declared.Found.the-variants.{At, Gap}
-use Rattle.store_layout.specs.Store.{entriesOf}
+use Rattle.store_layout.specs.Store.{entriesOf, storeGood}
 use Rattle.store_layout.specs.Lookup.{under}
 use Rattle.store_layout.specs.LookupLaws.{find-at, find-gap, put-under, remove-under}
 use Rattle.store_layout.specs.KeptLaws.{put-kept, delete-kept}
@@ -41,7 +41,6 @@ use Rattle.protocol_guarantees.specs.Cases.{Effect, refuses, shows, puts
 use Rattle.protocol_guarantees.specs.CasesLaws.{step10-effect, judge-cases, judge-obeys}
 use Rattle.protocol_guarantees.specs.AnsweredLaws.{came, result, one-operation}
 use Rattle.protocol_guarantees.specs.UnchangedLaws.{spared-stays}
-use Rattle.protocol_guarantees.specs.GoodLaws.{answer-leaves-good}
 
 -- the entry that a request finds is the one under the key
 entry-under : (s : State) (k : List ℕ) → entryOf s k ≡ under k (entries s)
@@ -151,12 +150,12 @@ module _ {s : State} {t : Tree} {v r : List ℕ} {s' : State} (a : Answered s t 
           ap (under (sent .key)) (delete-kept (s .store) (came a .stored) (sent .key) .entries) ∙ remove-under (sent .key) (sent .key) (entries s) (came a .stored .sorted)
           ∙ own-key (sent .key) (under (sent .key) (entries s)) none
 
-  -- LOCAL READ shows it too
-  pub put-then-local-read : Asks t Put → localOf (s' .store) (sent .key) ≡ found v
-  put-then-local-read asks = local-found (s' .store) (sent .key) (newEntry sent v) (answer-leaves-good s (a .room) (a .input) r s' (a .taken) (a .answer) .0) (put-stored asks)
+  -- LOCAL READ shows it too, then and later
+  pub put-then-local-read : {s₂ : State} → Asks t Put → Spared (sent .key) s' s₂ → storeGood (s₂ .store) ≡ true → localOf (s₂ .store) (sent .key) ≡ found v
+  put-then-local-read {s₂} asks spared good = local-found (s₂ .store) (sent .key) (newEntry sent v) good (spared-stays (sent .key) spared ∙ put-stored asks)
 
-  pub delete-then-local-read : Asks t Delete → localOf (s' .store) (sent .key) ≡ notFound
-  delete-then-local-read asks = local-missing (s' .store) (sent .key) (answer-leaves-good s (a .room) (a .input) r s' (a .taken) (a .answer) .0) (delete-gone asks)
+  pub delete-then-local-read : {s₂ : State} → Asks t Delete → Spared (sent .key) s' s₂ → storeGood (s₂ .store) ≡ true → localOf (s₂ .store) (sent .key) ≡ notFound
+  delete-then-local-read {s₂} asks spared good = local-missing (s₂ .store) (sent .key) good (spared-stays (sent .key) spared ∙ delete-gone asks)
 
 -- ---- a GET that passes steps 4 to 9
 
