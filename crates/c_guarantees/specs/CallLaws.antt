@@ -2,7 +2,7 @@
 use Prim.Native.Nat.{ℕ, _^_, _<_}
 use native.Mathlib.Omega.{arith}
 use mathlib.Core.Path.{_≡_, refl, sym, ap, _∙_, subst}
-use mathlib.Core.List.{List, [], _∷_}
+use mathlib.Core.List.{List}
 use lib.ListN.{length, take}
 use Rattle.fields_schema.specs.Tree.{Tree}
 use Rattle.protocol.specs.State.{State}
@@ -18,6 +18,7 @@ use Rattle.protocol_guarantees.specs.Answered.{Answered}
 use Rattle.protocol_guarantees.specs.CasesLaws.{refusal-number}
 use Rattle.device_guarantees.specs.HostCall.{HostAnswered}
 use Rattle.device_guarantees.specs.HostCallLaws.{host-answered, host-request}
+use Rattle.c_guarantees.specs.CallAnswered.{CallAnswered}
 
 module _ (store device connection readings input out counts : List ℕ) (n : ℕ) (store' device' connection' out' counts' : List ℕ)
     (call : (left n store' device' connection' out' counts' ≡ answerCall store device connection readings input out counts) × (connectionAt connection .number < 2 ^ 64)) where
@@ -43,27 +44,28 @@ module _ (store device connection readings input out counts : List ℕ) (n : ℕ
       go (answered b s k) q e = absurd (z (ap (λ (l : Left). l .number) e))
 
   -- AN ANSWER: the counts are what was taken and what was written, which fits 4,096 bytes; and the lent bytes hold the state of the next call
-  pub c-answered : n ≡ 0 → length connection ≡ 32
-      → (taken : ℕ) × (written : ℕ) × (counts' ≡ taken ∷ written ∷ []) × HostAnswered state input out written taken out' (lentState store' device' readings connection')
+  pub c-answered : n ≡ 0 → length connection ≡ 32 → CallAnswered state input out out' counts' (lentState store' device' readings connection')
   c-answered z long = go outcome refl as-left
     where
       next : lentState store' device' readings connection' ≡ stateAfter state outcome
       next = ap (λ (l : Left). lentState (l .store) (l .device) readings (l .connection)) (call .0) ∙ next-from store device connection readings input out counts long
 
       go : (o : Outcome State) → outcome ≡ o → left n store' device' connection' out' counts' ≡ leaves store device connection out counts o
-          → (taken : ℕ) × (written : ℕ) × (counts' ≡ taken ∷ written ∷ []) × HostAnswered state input out written taken out' (lentState store' device' readings connection')
+          → CallAnswered state input out out' counts' (lentState store' device' readings connection')
       go (refused k) q e = absurd (omega (arith, z, ap (λ (l : Left). l .number) e, refusal-number state (length out) input k q))
-      go (answered b s k) q e = (
-        k,
-        length b,
-        ap (λ (l : Left). l .counts) e,
-        subst (HostAnswered state input out (length b) k out') (sym (next ∙ ap (stateAfter state) q))
-            (host-answered state input out b s k out' (call .1) q (ap (λ (l : Left). l .out) e)),
-      )
+      go (answered b s k) q e =
+          record {
+            taken = k;
+            written = length b;
+            counted = ap (λ (l : Left). l .counts) e;
+            host =
+                subst (HostAnswered state input out (length b) k out') (sym (next ∙ ap (stateAfter state) q))
+                (host-answered state input out b s k out' (call .1) q (ap (λ (l : Left). l .out) e));
+          }
 
   -- and so the customer's laws hold of the call
   pub c-answers-request : (z : n ≡ 0) (long : length connection ≡ 32) (m v rest : List ℕ) (i : ℕ) (key : List ℕ) (c : Tree) → frameOf input ≡ whole m v rest
-      → reading box state m ≡ read i key c → Answered state c v (take (c-answered z long .1) out') (lentState store' device' readings connection')
+      → reading box state m ≡ read i key c → Answered state c v (take (c-answered z long .written) out') (lentState store' device' readings connection')
   c-answers-request z long =
       let h = c-answered z long in
-      host-request state input out (h .1) (h .0) out' (lentState store' device' readings connection') (call .1) (h .3)
+      host-request state input out (h .written) (h .taken) out' (lentState store' device' readings connection') (call .1) (h .host)

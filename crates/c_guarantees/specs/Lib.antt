@@ -1,1 +1,2 @@
+pub mod CallAnswered
 pub mod CallLaws
