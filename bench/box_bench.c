@@ -13,7 +13,7 @@
 #else
 #include "../include/ridgeladle.h"
 #endif
-uint32_t fields_request(const uint8_t *command, size_t n, uint64_t held[16]);
+uint32_t fields_request(const uint8_t *command, size_t n, uint64_t held[9]);
 
 enum { ROUNDS = 4000, REPEAT = 4, ENTRIES = 128, STORE = ENTRIES * 512, KEY = 20 };
 
@@ -31,7 +31,7 @@ typedef struct {
 static uint8_t store[STORE], first_store[STORE], record[PLAIN_RECORD], first_record[PLAIN_RECORD];
 static uint8_t fresh[PLAIN_CONNECTION], connection[PLAIN_CONNECTION], key[KEY], out[PLAIN_ROOM], other[PLAIN_ROOM], digest[20];
 static uint8_t version[16], tag[32], value[384], readings[PLAIN_READINGS];
-static uint64_t counts[2], held[16];
+static uint64_t counts[2], held[9];
 static volatile uint32_t sink;
 
 static void fail(const char *what, const char *name) {

@@ -97,7 +97,7 @@ uint32_t ridgeladle_answer(uint8_t *store, size_t store_len, uint8_t *record, ui
                            const uint8_t *input, size_t input_len, uint8_t *out, size_t out_len, uint64_t *counts /* [2]: taken, written */);
 
 /* Local read, for the box's own display: where the value under a key lies.
-   0 found: part[0] is the value's offset in the store, part[1] its length. Or 1 not found, also for a key that is not 1 to 64 bytes.
+   0 found: part[0] is the value's offset in the store, 120 after its block's, part[1] its length. Or 1 not found, also for a key that is not 1 to 64 bytes.
    Or 2, STORE_BAD, judged first. part is written only where found. */
 uint32_t ridgeladle_find(const uint8_t *store, size_t store_len, const uint8_t *key, size_t key_len,
                          uint64_t *part /* [2]: offset, length */);

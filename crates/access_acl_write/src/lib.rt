@@ -2,6 +2,7 @@
 ghost use mathlib.Core.Path.{_≡_};
 ghost use Prim.Native.Nat.{_+_, _<_, _≤_};
 ghost use lib.ListN.{length};
+ghost use Rattle.base_integers.specs.Signed.{wordOf};
 ghost use Rattle.access_record.specs.Record.{scopeBytes, aclHead};
 ghost use Rattle.access_record_bytes.specs.Wrote.{Wrote};
 ghost use Rattle.access_table_write.specs.Write.{putAcl, putScope};
@@ -15,22 +16,22 @@ use access_record::offsets::SCOPES;
 use access_record_bytes::flag_of;
 use access_record_bytes::put_bytes;
 use access_record_bytes::put_filled;
-use access_record_bytes::put_word;
+use access_record_bytes::put_signed;
 
-fn put_acl(out: &mut [u8], at: usize, identity: u64, key: &[u8]) -> usize
+fn put_acl(out: &mut [u8], at: usize, identity: i64, key: &[u8]) -> usize
     requires { ⌜ (at + 80 ≤ length (now out)) × (length (now key) ≤ 64) ⌝ }
-    ensures { λ r. ⌜ Wrote at r (aclHead identity (now (key .entry)) 0) (now (out .entry)) (now (out .exit)) ⌝ }
+    ensures { λ r. ⌜ Wrote at r (aclHead (wordOf identity) (now (key .entry)) 0) (now (out .entry)) (now (out .exit)) ⌝ }
 {
-    let a = put_word(out, at, identity);
+    let a = put_signed(out, at, identity);
     let lengths = [key.len() as u8, 0, 0, 0, 0, 0, 0, 0];
     let b = put_bytes(out, a, &lengths);
     put_filled(out, b, key)
 }
 
 // ACL number `place`, counted from 0, with no scope yet.
-pub fn add_acl(device: &mut Record, place: usize, identity: u64, key: &[u8])
+pub fn add_acl(device: &mut Record, place: usize, identity: i64, key: &[u8])
     requires { ⌜ (place < 8) × (length (now key) ≤ 64) ⌝ }
-    ensures { λ _. ⌜ now (device .exit) ≡ putAcl (now (device .entry)) place identity (now (key .entry)) ⌝ }
+    ensures { λ _. ⌜ now (device .exit) ≡ putAcl (now (device .entry)) place (wordOf identity) (now (key .entry)) ⌝ }
 {
     device[ACL_COUNT] = place as u8 + 1;
     put_acl(device, ACLS + place * ACL_BYTES, identity, key);

@@ -5,7 +5,7 @@ ghost use Rattle.base_definitions.specs.Lists.{all};
 ghost use Rattle.access_record.specs.Table.{maskGood, scopeGood, aclGood, aclsGood, tableGood};
 ghost use Rattle.access_record.specs.Record.{scopeAt, scopesAt, aclAt, aclsAt, tableOf};
 use access_identity::find_from;
-use access_record::Found;
+use access_record::IdentityPlace;
 use access_record::Record;
 use access_record::offsets::ACL_BYTES;
 use access_record::offsets::ACL_COUNT;
@@ -17,7 +17,7 @@ use access_record::offsets::SCOPE_BYTES;
 use access_record::offsets::SCOPE_COUNT;
 use access_record::offsets::SCOPES;
 use access_record::offsets::VALUE_LENGTH;
-use access_record::word_at;
+use access_record::signed_at;
 use base_integers::as_usize::wide;
 
 fn mask_good(mask: usize) -> bool
@@ -92,12 +92,12 @@ fn acls_good(device: &Record, n: usize) -> bool
         if !acl_good(device, at) {
             return false;
         }
-        let identity = word_at(device, at);
+        let identity = signed_at(device, at);
         at += ACL_BYTES;
         left -= 1;
         match find_from(device, at, left, 0, identity) {
-            Found::Nobody => {}
-            Found::At(_) => return false,
+            IdentityPlace::Nobody => {}
+            IdentityPlace::At(_) => return false,
         }
     }
     true

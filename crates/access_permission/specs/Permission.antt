@@ -7,7 +7,6 @@ use lib.ListN.{length, take, drop}
 use Rattle.base_definitions.specs.Bits.{bit}
 use Rattle.base_definitions.specs.Lists.{any, isEmpty, sameBytes}
 use Rattle.access_record.specs.Table.{Scope, Acl}
-use Rattle.access_permission.specs.Permissions.{RANGE}
 
 -- the value is empty, or stands in the key at exactly the offset
 unfoldable pub fitsAt : List ℕ → ℕ → List ℕ → Bool
@@ -38,5 +37,5 @@ unfoldable pub permitsAny : Acl → Bool → ℕ → Bool
 permitsAny a protected p = any (grants false [] protected p) (a .scopes)
 
 -- "GETKEYRANGE by startKey and endKey, each through some scope".
-unfoldable pub permitsRange : Acl → Bool → List ℕ → List ℕ → Bool
-permitsRange a protected start end = permits a protected RANGE start && permits a protected RANGE end
+unfoldable pub permitsRange : Acl → Bool → ℕ → List ℕ → List ℕ → Bool
+permitsRange a protected p start end = permits a protected p start && permits a protected p end

@@ -1,6 +1,7 @@
 pub mod Offsets
 pub mod Table
 pub mod Record
+pub mod OffsetLaws
 pub mod Places
 pub mod TableLaws
 pub mod LookupLaws

@@ -8,8 +8,8 @@ use native.Mathlib.Omega.{arith}
 use lib.Dec.{eqb}
 use lib.ListN.{length, getD}
 use borrow.Author.Tests.{eqb-true, eqb-false}
-use Rattle.access_record.specs.declared.Found.{Found}
-use Rattle.access_record.specs.declared.Found.the-variants.{At, Nobody}
+use Rattle.access_record.specs.declared.IdentityPlace.{IdentityPlace}
+use Rattle.access_record.specs.declared.IdentityPlace.the-variants.{At, Nobody}
 use Rattle.base_definitions.specs.Lists.{within}
 use Rattle.access_record.specs.Table.{Acl, Table, aclGood, findFrom, isNobody, aclsGood, tableGood, placeOf, aclOf, noAcl}
 use Rattle.access_record.specs.Record.{tableOf, Placed}
@@ -86,7 +86,7 @@ differ (x ∷ xs) i zero d g h k e = not-suc-le-zero h
 differ (x ∷ xs) zero (suc j) d g h k e =
     nobody-has 0 (x .identity) xs j d (is-nobody (findFrom 0 (x .identity) xs) (both-fst (isNobody (findFrom 0 (x .identity) xs)) (aclsGood xs) (both-snd (aclGood x) _ g))) (omega arith) (sym e)
   where
-    is-nobody : (f : Found) → isNobody f ≡ true → f ≡ Nobody
+    is-nobody : (f : IdentityPlace) → isNobody f ≡ true → f ≡ Nobody
     is-nobody Nobody q = refl
     is-nobody (At i) q = absurd (let z : _≡_ {A = ℕ} 0 1 = cc in omega arith)
 differ (x ∷ xs) (suc i) (suc j) d g h k e =

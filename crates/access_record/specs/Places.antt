@@ -14,7 +14,7 @@ others l a n =
     isNobody (findFrom 0 (wordAt l a) (aclsAt l (a + 368) (n - 1))) && aclsGood (aclsAt l (a + 368) (n - 1))
 
 -- the ACL at a place of a good record
-pub record Place (l : List ℕ) (a : ℕ) : Type 0 where
+pub record AclPlace (l : List ℕ) (a : ℕ) : Type 0 where
   pub key-fits : getD l (a + 8) 0 ≤ 64
   pub scopes-few : getD l (a + 9) 0 ≤ 4
   pub scopes-good : all scopeGood (scopesAt l (a + 80) (getD l (a + 9) 0)) ≡ true

@@ -4,13 +4,13 @@ use mathlib.Core.Bool.{Bool, true, false, not, _&&_}
 use mathlib.Core.List.{List, [], _∷_, _++_, append-assoc}
 use Prim.Native.Nat.{ℕ, zero, suc, _+_, _-_, _*_, _/_, _%_, _≤_}
 use native.Mathlib.Omega.{arith}
-use lib.Dec.{eqb, leb}
+use lib.Dec.{eqb}
 use lib.ListN.{length, take, drop, getD, replicate, length-append, length-replicate, take-append-drop}
 use lib.Seq.{getD-append-add, length-take-le}
 use borrow.Author.Tests.{leb-true, le-leb}
 use Rattle.base_definitions.specs.BigEndian.{be32}
 use Rattle.base_definitions.specs.Lists.{within, all, fill}
-use Rattle.access_record.specs.Table.{Scope, Acl, Table, maskGood, scopeGood, aclGood, aclsGood, tableGood, isNobody, findFrom, hostTable}
+use Rattle.access_record.specs.Table.{Scope, Acl, Table, maskGood, offsetGood, scopeGood, aclGood, aclsGood, tableGood, isNobody, findFrom, hostTable}
 use Rattle.access_record.specs.Record.{bytesAt, halfAt, wordAt, scopeAt, scopesAt, aclAt, aclsAt, tableOf, wordBytes, flag, scopeBytes, scopesBytes, aclHead, aclBytes, aclsBytes, tableHead, tableBytes, withClusterVersion}
 use Rattle.access_record.specs.TableLaws.{both-fst, both-snd, within-high}
 use Rattle.access_record.specs.Roomy.{Roomy, none, more, RoomyAcl, RoomyAcls, RoomyTable}
@@ -207,7 +207,7 @@ acls-back (x ∷ xs) r (more h hs) =
 -- what a good table gives
 pub roomy-scope : (s : Scope) → scopeGood s ≡ true → length (s .value) ≤ 64
 unfolding scopeGood
-roomy-scope s g = leb-true (length (s .value)) 64 (both-fst _ (maskGood (s .permissions)) (both-snd (leb (s .offset) 64) _ g))
+roomy-scope s g = leb-true (length (s .value)) 64 (both-fst _ (maskGood (s .permissions)) (both-snd (offsetGood (s .offset)) _ g))
 
 roomy-scopes : (ss : List Scope) → all scopeGood ss ≡ true → Roomy ss
 unfolding all
@@ -293,5 +293,5 @@ version-good l w h = ap tableGood (version-set l w h)
 
 -- Format's table is good for host keys of 1 to 64 bytes
 pub host-good : (key : List ℕ) → 1 ≤ length key → length key ≤ 64 → tableGood (hostTable key) ≡ true
-unfolding tableGood aclsGood aclGood all scopeGood maskGood findFrom
+unfolding tableGood aclsGood aclGood all offsetGood scopeGood maskGood findFrom
 host-good key h k = simp (le-leb 1 (length key) h, le-leb (length key) 64 k)

@@ -1,13 +1,16 @@
 -- The table of identities and its rules. Document 01, "The order of judgement", step 8, and refusal 3.
-use mathlib.Core.Bool.{Bool, true, false, cond, _&&_, _||_}
+use mathlib.Core.Bool.{Bool, true, false, not, cond, _&&_, _||_}
 use mathlib.Core.List.{List, [], _∷_}
 use Prim.Native.Nat.{ℕ, _+_, _/_, _%_}
 use lib.Dec.{eqb, leb}
+use lib.IntN.{pos}
+use lib.Signed.{ltZ}
 use lib.ListN.{length, getD}
-use Rattle.access_record.specs.declared.Found.{Found}
+use Rattle.access_record.specs.declared.IdentityPlace.{IdentityPlace}
 use Rattle.base_definitions.specs.Lists.{all, within}
 use Rattle.base_definitions.specs.Bits.{withBit}
-use Rattle.access_record.specs.declared.Found.the-variants.{At, Nobody}
+use Rattle.base_integers.specs.Signed.{signedOf}
+use Rattle.access_record.specs.declared.IdentityPlace.the-variants.{At, Nobody}
 
 -- ---- the table
 
@@ -54,18 +57,22 @@ scopeOf offset value ps tlsRequired =
 unfoldable pub maskGood : ℕ → Bool
 maskGood m = leb 1 m && (leb m 1023 && eqb (m / 64 % 2) 0)
 
+-- "offset 0 to 64", "Negative offsets are refused": by the number that its word stands for
+unfoldable pub offsetGood : ℕ → Bool
+offsetGood v = not (ltZ (signedOf v) (pos 0)) && not (ltZ (pos 64) (signedOf v))
+
 unfoldable pub scopeGood : Scope → Bool
-scopeGood s = leb (s .offset) 64 && (leb (length (s .value)) 64 && maskGood (s .permissions))
+scopeGood s = offsetGood (s .offset) && (leb (length (s .value)) 64 && maskGood (s .permissions))
 
 unfoldable pub aclGood : Acl → Bool
 aclGood a = within 1 64 (length (a .key)) && (within 1 4 (length (a .scopes)) && all scopeGood (a .scopes))
 
 -- the first ACL that has the identity, counted from i
-unfoldable pub findFrom : ℕ → ℕ → List Acl → Found
+unfoldable pub findFrom : ℕ → ℕ → List Acl → IdentityPlace
 findFrom i w [] = Nobody
 findFrom i w (a ∷ rest) = cond (eqb (a .identity) w) (At i) (findFrom (i + 1) w rest)
 
-abbrev pub isNobody : Found → Bool
+abbrev pub isNobody : IdentityPlace → Bool
 isNobody Nobody = true
 isNobody (At i) = false
 
@@ -80,7 +87,7 @@ tableGood t = within 1 8 (length (t .acls)) && aclsGood (t .acls)
 -- ---- look-up
 
 -- step 2: "Identity in the table"
-unfoldable pub placeOf : Table → ℕ → Found
+unfoldable pub placeOf : Table → ℕ → IdentityPlace
 placeOf t w = findFrom 0 w (t .acls)
 
 abbrev pub noAcl : Acl

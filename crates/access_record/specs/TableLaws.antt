@@ -10,11 +10,12 @@ use lib.Dec.{leb}
 use borrow.Author.Tests.{eq-eqb, ne-eqb, leb-true}
 use lib.ListN.{length, take, drop, getD}
 use lib.Seq.{drop-cons}
-use Rattle.access_record.specs.declared.Found.the-variants.{At, Nobody}
+use Rattle.access_record.specs.declared.IdentityPlace.the-variants.{At, Nobody}
 use Rattle.base_definitions.specs.Lists.{all, within, any}
 use Rattle.access_record.specs.Table.{Scope, Acl, aclOf, maskGood, scopeGood, aclGood, findFrom, isNobody, aclsGood, tableGood, noAcl}
+use Rattle.access_record.specs.OffsetLaws.{offset-good}
 use Rattle.access_record.specs.Record.{bytesAt, wordAt, scopeAt, scopesAt, aclAt, aclsAt, tableOf}
-use Rattle.access_record.specs.Places.{others, Place}
+use Rattle.access_record.specs.Places.{others, AclPlace}
 
 -- ---- a walk that answers no at the first no
 pub stops : {x : Bool} (y : Bool) {g h : Bool} → g ≡ (x && y) → g ≡ h → x ≡ false → false ≡ h
@@ -87,8 +88,8 @@ pub scope-test : (l : List ℕ) (a : ℕ)
     ≡ (leb (getD l a 0) 64 && (leb (getD l (a + 1) 0) 64 && maskGood (getD l (a + 2) 0 * 256 + getD l (a + 3) 0)))
 unfolding scopeGood scopeAt
 scope-test l a =
-    ap (λ (n : ℕ). (leb (getD l a 0) 64 && (leb n 64 && maskGood (getD l (a + 2) 0 * 256 + getD l (a + 3) 0))))
-    (length-bytesAt l (a + 8) (getD l (a + 1) 0))
+    ap₂ (λ (t : Bool) (n : ℕ). (t && (leb n 64 && maskGood (getD l (a + 2) 0 * 256 + getD l (a + 3) 0))))
+    (offset-good (getD l a 0)) (length-bytesAt l (a + 8) (getD l (a + 1) 0))
 
 pub scopes-test : (l : List ℕ) (a n : ℕ) → 0 < n
     → all scopeGood (scopesAt l a n) ≡ (scopeGood (scopeAt l a) && all scopeGood (scopesAt l (a + 72) (n - 1)))
@@ -151,7 +152,7 @@ pub scope-value : (l : List ℕ) (a : ℕ) → scopeGood (scopeAt l a) ≡ true 
 scope-value l a g =
     leb-true _ _ (both-fst (leb (getD l (a + 1) 0) 64) _ (both-snd (leb (getD l a 0) 64) _ (sym (scope-test l a) ∙ g)))
 
-place-good : (l : List ℕ) (a : ℕ) → aclGood (aclAt l a) ≡ true → Place l a
+place-good : (l : List ℕ) (a : ℕ) → aclGood (aclAt l a) ≡ true → AclPlace l a
 place-good l a g =
     let k = getD l (a + 8) 0 in
     let n = getD l (a + 9) 0 in
@@ -196,7 +197,7 @@ module _ (l : List ℕ) (i : ℕ) (h : i < length (tableOf l .acls)) where
   pub below-eight : tableGood (tableOf l) ≡ true → i < 8
   below-eight g = let a = table-count l g in let b = below-count in omega arith
 
-  pub place-of : tableGood (tableOf l) ≡ true → Place l (16 + i * 368)
+  pub place-of : tableGood (tableOf l) ≡ true → AclPlace l (16 + i * 368)
   place-of g =
       place-good l (16 + i * 368)
       (acls-nth l 16 (getD l 8 0) i (both-snd (within 1 8 (getD l 8 0)) _ (sym (table-test l refl) ∙ g)) below-count)

@@ -1,10 +1,12 @@
-// Bytes and words written into a record: each write returns the place after it.
+// Bytes and signed numbers written into a record: each write returns the place after it.
 ghost use mathlib.Core.Path.{_≡_};
 ghost use Prim.Native.Nat.{_+_, _≤_};
 ghost use lib.ListN.{length, replicate};
 ghost use Rattle.base_definitions.specs.Lists.{fill};
+ghost use Rattle.base_integers.specs.Signed.{wordOf};
 ghost use Rattle.access_record.specs.Record.{flag, wordBytes};
 ghost use Rattle.access_record_bytes.specs.Wrote.{Wrote};
+use base_integers::word;
 
 pub fn put_bytes(out: &mut [u8], at: usize, src: &[u8]) -> usize
     requires { ⌜ at + length (now src) ≤ length (now out) ⌝ }
@@ -56,11 +58,12 @@ fn word_bytes(w: u64) -> [u8; 8]
     ]
 }
 
-pub fn put_word(out: &mut [u8], at: usize, w: u64) -> usize
+// A signed number, as its word.
+pub fn put_signed(out: &mut [u8], at: usize, x: i64) -> usize
     requires { ⌜ at + 8 ≤ length (now out) ⌝ }
-    ensures { λ r. ⌜ Wrote at r (wordBytes w) (now (out .entry)) (now (out .exit)) ⌝ }
+    ensures { λ r. ⌜ Wrote at r (wordBytes (wordOf x)) (now (out .entry)) (now (out .exit)) ⌝ }
 {
-    let b = word_bytes(w);
+    let b = word_bytes(word(x));
     put_bytes(out, at, &b)
 }
 

@@ -5,7 +5,6 @@ ghost use Rattle.access_record.specs.Table.{aclOf};
 ghost use Rattle.access_record.specs.Record.{tableOf, Placed};
 ghost use Rattle.access_permission.specs.Permission.{permits, permitsAny, permitsRange};
 use crate::grants::acl_grants;
-use access_permission::RANGE;
 use access_record::Record;
 
 // One scope at the place holds the permission, allows the connection and fits the key.
@@ -25,19 +24,20 @@ pub fn permits_any(device: &Record, place: usize, protected: bool, permission: u
     acl_grants(device, place, false, &none, protected, permission)
 }
 
-// GETKEYRANGE: some scope for the start key and some scope for the end key.
+// The same for a range: some scope for the start key and some scope for the end key.
 pub fn permits_range(
     device: &Record,
     place: usize,
     protected: bool,
+    permission: u8,
     start: &[u8],
     end: &[u8],
 ) -> bool
-    requires { ⌜ Placed (now device) place ⌝ }
-    ensures { λ r. ⌜ r ≡ permitsRange (aclOf (tableOf (now (device .entry))) place) protected (now (start .entry)) (now (end .entry)) ⌝ }
+    requires { ⌜ Placed (now device) place × (permission < 16) ⌝ }
+    ensures { λ r. ⌜ r ≡ permitsRange (aclOf (tableOf (now (device .entry))) place) protected permission (now (start .entry)) (now (end .entry)) ⌝ }
 {
-    if !permits(device, place, protected, RANGE, start) {
+    if !permits(device, place, protected, permission, start) {
         return false;
     }
-    permits(device, place, protected, RANGE, end)
+    permits(device, place, protected, permission, end)
 }

@@ -1,136 +1,98 @@
 // The reading of a command for C, as the benchmark links it.
 ghost use mathlib.Core.Bool.{cond};
 ghost use mathlib.Core.Path.{_≡_};
-ghost use Prim.Native.Nat.{_<_};
-ghost use Rattle.fields_schema.specs.Tree.{isSome, listed};
-ghost use Rattle.fields_decode.specs.Slots.{Sized};
+ghost use mathlib.Core.List.{List};
+ghost use Prim.Native.Nat.{ℕ};
+ghost use Rattle.base_definitions.specs.Options.{orElse};
+ghost use Rattle.fields_lookup.specs.Views.{numView, signedView};
+ghost use Rattle.fields_schema.specs.Tree.{isSome, listed, mapO};
+ghost use Rattle.protocol.specs.Command.{commandOf};
 ghost use Rattle.protocol.specs.Reading.{decodes};
+ghost use Rattle.request_command.specs.Views.{BodyLies};
+ghost use Rattle.bench_fields.specs.Held.{said, held, left, takenOut};
+use base_integers::word;
 use fields_decode::nested::reads;
-use fields_decode::slots::Slots;
-use fields_decode::slots::collect;
+use fields_lookup::parts::Num;
+use fields_lookup::parts::Part;
+use fields_lookup::parts::Signed;
 use fields_schema::Kind;
 use request_command::Request;
+use request_command::numbers::number_or;
+use request_command::numbers::signed_or;
 use request_command::read_request;
-
-fn answer(decodes: bool) -> u32
-    ensures { λ r. ⌜ r ≡ cond decodes 0 1 ⌝ }
-{
-    if decodes {
-        return 0;
-    }
-    1
-}
 
 // 0 if the command decodes, else 1.
 #[no_mangle]
 pub extern "C" fn fields_reads(s: &[u8]) -> u32
     ensures { λ r. ⌜ r ≡ cond (isSome (listed (Kind.Command) (now (s .entry)))) 0 1 ⌝ }
 {
-    answer(reads(s, Kind::Command))
+    if reads(s, Kind::Command) {
+        return 0;
+    }
+    1
 }
 
-// The message in field n; nothing where there is none.
-fn inside(s: &[u8], t: Slots, n: usize) -> &[u8]
-    requires { ⌜ Sized t × (n < 16) ⌝ }
+// A number, if the message is there that it would stand in.
+fn number_in(there: bool, n: Num) -> u64
+    ensures { λ r. ⌜ r ≡ cond there (orElse 0 (numView n)) 0 ⌝ }
 {
-    let start = t.value[n] as usize;
-    let len = t.len[n];
-    if start <= s.len() {
-        if len <= s.len() - start {
-            let end = start + len;
-            return &s[start..end];
-        }
+    if there {
+        return number_or(n, 0);
     }
-    &s[..0]
+    0
 }
 
-// The header's numbers: cluster version, connection, sequence, type.
-fn header(s: &[u8], out: &mut [u64; 16]) {
-    let t = collect(s, Kind::Header);
-    let ok = t.ok;
-    if ok {
-        out[0] = t.value[1];
-        out[1] = t.value[3];
-        out[2] = t.value[4];
-        out[3] = t.value[7];
-    }
-}
-
-// New version, key, stored version and tag, each by its start and its length; the algorithm.
-fn key_value(s: &[u8], out: &mut [u64; 16]) {
-    let t = collect(s, Kind::KeyValue);
-    let ok = t.ok;
-    if ok {
-        out[4] = t.value[2];
-        out[5] = t.len[2] as u64;
-        out[6] = t.value[3];
-        out[7] = t.len[3] as u64;
-        out[8] = t.value[4];
-        out[9] = t.len[4] as u64;
-        out[10] = t.value[5];
-        out[11] = t.len[5] as u64;
-        out[12] = t.value[6];
-    }
-}
-
-fn body(s: &[u8], out: &mut [u64; 16]) {
-    let t = collect(s, Kind::Body);
-    let ok = t.ok;
-    if ok {
-        key_value(inside(s, t, 1), out);
-    }
-}
-
-// What the command of a PUT holds.
-fn values(s: &[u8], out: &mut [u64; 16]) {
-    let t = collect(s, Kind::Command);
-    let ok = t.ok;
-    if ok {
-        header(inside(s, t, 1), out);
-        body(inside(s, t, 2), out);
-    }
-}
-
-// 0 if the command decodes, and then what that of a PUT holds, for measuring alone: no promise says what is written; else 1.
-#[no_mangle]
-pub extern "C" fn fields_put(s: &[u8], out: &mut [u64; 16]) -> u32
-    ensures { λ r. ⌜ r ≡ cond (isSome (listed (Kind.Command) (now (s .entry)))) 0 1 ⌝ }
+// The same of a signed number, as its word.
+fn signed_in(there: bool, n: Signed) -> u64
+    ensures { λ r. ⌜ r ≡ cond there (orElse 0 (signedView n)) 0 ⌝ }
 {
-    let decodes = reads(s, Kind::Command);
-    if decodes {
-        values(s, out);
+    if there {
+        return word(signed_or(n, 0));
     }
-    answer(decodes)
+    0
 }
 
-// The same values out of a request.
-fn asked(r: Request, out: &mut [u64; 16]) {
+// The same of the length of a part.
+fn length_in(there: bool, p: Part) -> u64
+    ensures { λ r. ⌜ r ≡ cond there (p .len) 0 ⌝ }
+{
+    if there {
+        return p.len as u64;
+    }
+    0
+}
+
+// The numbers of a request, and the lengths of its parts.
+fn numbers(r: Request, out: &mut [u64; 9])
+    ensures { λ _. ⌜ ((s : List ℕ) → BodyLies s (r .body) → now (out .exit) ≡ held (said s r)) ⌝ }
+{
+    let headed = r.headed;
+    let keyed = r.body.keyed;
     let h = r.header;
     let e = r.body.entry;
-    out[0] = h.cluster.value;
-    out[1] = h.connection.value;
-    out[2] = h.sequence.value;
-    out[3] = h.kind.value;
-    out[4] = e.version.start as u64;
-    out[5] = e.version.len as u64;
-    out[6] = e.key.start as u64;
-    out[7] = e.key.len as u64;
-    out[8] = e.expected.start as u64;
-    out[9] = e.expected.len as u64;
-    out[10] = e.tag.start as u64;
-    out[11] = e.tag.len as u64;
-    out[12] = e.algorithm.value;
+    *out = [
+        signed_in(headed, h.cluster),
+        signed_in(headed, h.connection),
+        signed_in(headed, h.sequence),
+        number_in(headed, h.kind),
+        length_in(keyed, e.version),
+        length_in(keyed, e.key),
+        length_in(keyed, e.expected),
+        length_in(keyed, e.tag),
+        number_in(keyed, e.algorithm),
+    ];
 }
 
-// As the box reads it, with every field of a request: 0 if the command decodes, and then what that of a PUT holds, for measuring alone; else 1.
+// As the box reads it: 0 if the command decodes, and then its numbers and the lengths of its parts, as a PUT has them; else 1, and nothing is written.
 #[no_mangle]
-pub extern "C" fn fields_request(s: &[u8], out: &mut [u64; 16]) -> u32
-    ensures { λ r. ⌜ r ≡ cond (isSome (decodes (now (s .entry)))) 0 1 ⌝ }
+pub extern "C" fn fields_request(s: &[u8], out: &mut [u64; 9]) -> u32
+    ensures { λ r. ⌜ left r (now (out .exit)) ≡ takenOut (now (out .entry)) (mapO commandOf (decodes (now (s .entry)))) ⌝ }
 {
     let r = read_request(s);
     let ok = r.ok;
     if ok {
-        asked(r, out);
+        numbers(r, out);
+        return 0;
     }
-    answer(ok)
+    1
 }

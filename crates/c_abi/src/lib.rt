@@ -12,7 +12,8 @@ ghost use Rattle.c_digest.specs.Written.{Written};
 ghost use Rattle.protocol.specs.Format.{Told};
 ghost use Rattle.c_connection.specs.Layout.{connectedBytes, connectionAt};
 ghost use Rattle.store_rescue.specs.Rescue.{outcome, rescueOf};
-ghost use Rattle.c_calls.specs.Find.{Find};
+ghost use Rattle.store_local_read.specs.Local.{localOf};
+ghost use Rattle.c_calls.specs.Find.{looked, lookedUp};
 ghost use Rattle.c_abi.specs.Calls.{left, answerCall};
 
 // 0 made; or refusal 2 or 6, and nothing is written.
@@ -54,7 +55,7 @@ pub extern "C" fn ridgeladle_answer(
 // 0 found, and part is the value's offset in the store and its length; or 1 not found, or refusal 2, and nothing is written.
 #[no_mangle]
 pub extern "C" fn ridgeladle_find(store: &[u8], key: &[u8], part: &mut [u64; 2]) -> u32
-    ensures { λ r. ⌜ Find (now (store .entry)) (now (key .entry)) (now (part .entry)) r (now (part .exit)) ⌝ }
+    ensures { λ r. ⌜ looked r (now (part .exit)) ≡ lookedUp (now (part .entry)) (localOf (now (store .entry)) (now (key .entry))) ⌝ }
 {
     c_calls::store::find(store, key, part)
 }

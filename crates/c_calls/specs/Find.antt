@@ -1,30 +1,16 @@
--- What the look-up of a value leaves: its number, and the part.
-use mathlib.Core.Path.{_≡_}
-use mathlib.Core.List.{List}
-use Prim.Native.Nat.{ℕ, _+_, _≤_}
-use lib.ListN.{length, take, drop, getD}
-use Rattle.store_local_read.specs.Local as local
-use Rattle.store_local_read.specs.Local.{found, notFound, storeBad, localOf}
+-- What the look-up of a value leaves: its number, and the part, which is written only where the value is found: its offset and its length.
+use mathlib.Core.Bool.{cond}
+use mathlib.Core.List.{List, [], _∷_}
+use Prim.Native.Nat.{ℕ}
+use lib.Dec.{eqb}
+use Rattle.store_local_read.specs.Local.{Answer}
 
--- 0 found, 1 not found, 2 the refusal's own
+pub record Looked : Type 0 where
+  pub number : ℕ
+  pub part : List ℕ
 
-abbrev pub findNumber : local.Outcome → ℕ
-findNumber (found v) = 0
-findNumber notFound = 1
-findNumber storeBad = 2
+abbrev pub looked : ℕ → List ℕ → Looked
+looked n part = record { number = n; part = part }
 
--- a part of the store, by its offset and its length: it lies inside, and it is the value
-pub record Holds (store part value : List ℕ) : Type 0 where
-  pub two : length part ≡ 2
-  pub inside : getD part 0 0 + getD part 1 0 ≤ length store
-  pub same : take (getD part 1 0) (drop (getD part 0 0) store) ≡ value
-
--- the part is written only where found. Which of several equal parts is left undecided
-abbrev pub partLeft : List ℕ → List ℕ → List ℕ → local.Outcome → Type 0
-partLeft store before after (found v) = Holds store after v
-partLeft store before after notFound = after ≡ before
-partLeft store before after storeBad = after ≡ before
-
-pub record Find (store key before : List ℕ) (r : ℕ) (after : List ℕ) : Type 0 where
-  pub number : r ≡ findNumber (localOf store key)
-  pub part : partLeft store before after (localOf store key)
+abbrev pub lookedUp : List ℕ → Answer → Looked
+lookedUp part a = looked (a .number) (cond (eqb (a .number) 0) (a .start ∷ a .len ∷ []) part)

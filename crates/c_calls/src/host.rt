@@ -26,7 +26,7 @@ pub fn format(store: &mut [u8], device: &mut Record, key: &[u8]) -> u32
 pub fn connect(connection: &mut Bytes, number: i64, protected: u8)
     ensures { λ _. ⌜ now (connection .exit) ≡ connectedBytes (wordOf number) (not (eqb protected 0)) ⌝ }
 {
-    c_connection::write::connect(connection, base_integers::word(number), protected != 0);
+    c_connection::write::connect(connection, number, protected != 0);
 }
 
 // The number of a response; where it is an answer, what changed of the connection, and the counts.

@@ -3,11 +3,12 @@ use store_local_read::Local;
 use store_rescue::rule::Rescued;
 ghost use mathlib.Core.Path.{_≡_};
 ghost use Rattle.store_rescue.specs.Rescue.{outcome, rescueOf};
-ghost use Rattle.c_calls.specs.Find.{Find};
+ghost use Rattle.store_local_read.specs.Local.{localOf};
+ghost use Rattle.c_calls.specs.Find.{looked, lookedUp};
 
 // 0 found, and part is the value's offset in the store and its length; or 1 not found, or refusal 2, and nothing is written.
 pub fn find(store: &[u8], key: &[u8], part: &mut [u64; 2]) -> u32
-    ensures { λ r. ⌜ Find (now (store .entry)) (now (key .entry)) (now (part .entry)) r (now (part .exit)) ⌝ }
+    ensures { λ r. ⌜ looked r (now (part .exit)) ≡ lookedUp (now (part .entry)) (localOf (now (store .entry)) (now (key .entry))) ⌝ }
 {
     match store_local_read::local_find(store, key) {
         Local::Value { start, len } => {

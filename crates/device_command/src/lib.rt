@@ -1,6 +1,7 @@
 // Steps 3 to 10: what comes of a command that was signed right.
 use access_record::Record;
 use fields_lookup::parts::Num;
+use fields_lookup::parts::Signed;
 use judge_header::header::header_fault;
 use judge_header::message_type::asked_by;
 use judge_header::message_type::reply_type;
@@ -11,9 +12,10 @@ use protocol::status::INVALID_REQUEST;
 use protocol_connection::Connection;
 use reply_command::ReplyTo;
 use reply_send::close::Replied;
+use reply_send::send::status;
 use request_command::Body;
 use request_command::Request;
-use request_command::numbers::number_or;
+use request_command::numbers::signed_or;
 ghost use mathlib.Core.Path.{_≡_};
 ghost use mathlib.Core.Bool.{true, cond};
 ghost use mathlib.Core.Option.{Option, none, some};
@@ -22,9 +24,10 @@ ghost use lib.ListN.{length};
 ghost use Rattle.store_layout.specs.Store.{Good};
 ghost use Rattle.log_readings.specs.Lent.{readingsGood};
 ghost use Rattle.access_record.specs.Table.{aclOf, placeOf, tableGood};
-ghost use Rattle.access_record.specs.declared.Found.the-variants.{At};
+ghost use Rattle.access_record.specs.declared.IdentityPlace.the-variants.{At};
 ghost use Rattle.access_record.specs.Record.{tableOf, Placed};
-ghost use Rattle.fields_lookup.specs.Views.{numView};
+ghost use Rattle.base_integers.specs.Signed.{wordOf};
+ghost use Rattle.fields_lookup.specs.Views.{numView, signedView};
 ghost use Rattle.protocol.specs.State as state;
 ghost use Rattle.protocol.specs.State.{table};
 ghost use Rattle.protocol.specs.Reading.{decoded, decodes};
@@ -32,6 +35,7 @@ ghost use Rattle.protocol.specs.Operation.{askedBy};
 ghost use Rattle.protocol.specs.Answer.{respond};
 ghost use Rattle.protocol.specs.Box.{box, judged};
 ghost use Rattle.judge_header.specs.Rest.{rest};
+ghost use Rattle.judge_permission.specs.Numbered.{askedNumbered};
 ghost use Rattle.request_command.specs.Views.{BodyLies, bodyView};
 ghost use Rattle.protocol_connection.specs.ConnectionOf.{connectionOf};
 ghost use Rattle.device_command.specs.Commands.{commandIn, HeadingOf};
@@ -40,7 +44,7 @@ ghost use Rattle.reply_send.specs.Answers.{Answers, before, after};
 
 // Who sent a command: the identity, the place of its ACL in the table, and the connection that the command came on.
 pub struct Sender {
-    pub identity: u64,
+    pub identity: i64,
     pub acl: usize,
     pub connection: Connection,
 }
@@ -53,9 +57,9 @@ struct Received {
 
 // What the header of a request says: its clusterVersion, its connectionID and its sequence, and what its messageType asks for.
 struct Heading {
-    version: u64,
-    id: Num,
-    sequence: Num,
+    version: i64,
+    id: Signed,
+    sequence: Signed,
     asked: Asked,
 }
 
@@ -79,7 +83,7 @@ fn admit_and_perform(
     signing_key: &[u8],
 ) -> usize
     requires { ⌜ (4096 ≤ length (now out)) × (length (now «signing_key») ≤ 64) × Good (now store) × Placed (now device) (accepted .sender .acl)
-        × BodyLies (now command) (accepted .body) × (readingsGood (now readings) ≡ true) ⌝ }
+        × BodyLies (now command) (accepted .body) × (readingsGood (now readings) ≡ true) × (askedNumbered (accepted .asked) ≡ true) ⌝ }
     ensures { λ r. ⌜ ((c : state.Connection) (type : Option ℕ) → c .protected ≡ accepted .sender .connection .protected
         → accepted .asked ≡ askedBy type → let body = bodyView (now (command .entry)) (accepted .body) in
         Answers (λ s. replied (accepted .«reply_to») (now («signing_key» .entry))
@@ -88,9 +92,9 @@ fn admit_and_perform(
 {
     let asked = accepted.asked;
     match asked {
-        Asked::Request(operation) => {
+        Asked::Request(choice) => {
             let refusal = judge_admission::admit(
-                operation,
+                choice,
                 device,
                 accepted.sender.acl,
                 accepted.sender.connection.protected,
@@ -99,8 +103,9 @@ fn admit_and_perform(
                 value.len(),
             );
             if refusal != 0 {
-                return reply_send::send::status(out, signing_key, accepted.reply_to, refusal);
+                return status(out, signing_key, accepted.reply_to, refusal);
             }
+            let operation = choice.operation;
             let body = accepted.body;
             let reply_to = accepted.reply_to;
             let job = Job {
@@ -119,38 +124,42 @@ fn admit_and_perform(
                 signing_key,
             )
         }
-        Asked::NotBuilt => reply_send::send::status(
-            out,
-            signing_key,
-            accepted.reply_to,
-            INVALID_REQUEST,
-        ),
+        Asked::NotBuilt => status(out, signing_key, accepted.reply_to, INVALID_REQUEST),
     }
 }
 
-// A number of a header, if there is a header.
-fn in_header(headed: bool, n: Num) -> Num
-    ensures { λ r. ⌜ numView r ≡ cond headed (numView n) none ⌝ }
+// A signed number of a header, if there is a header.
+fn in_header(headed: bool, n: Signed) -> Signed
+    ensures { λ r. ⌜ signedView r ≡ cond headed (signedView n) none ⌝ }
 {
     if headed {
         return n;
     }
-    Num {
+    Signed {
         has: false,
         value: 0,
     }
+}
+
+// What a messageType asks for, if there is a header.
+fn asked_in(headed: bool, n: Num) -> Asked
+    ensures { λ r. ⌜ r ≡ askedBy (cond headed (numView n) none) ⌝ }
+{
+    if headed {
+        return asked_by(n.has, n.value);
+    }
+    Asked::NotBuilt
 }
 
 // What the header of a request says; one that is absent has none of it, and asks for nothing.
 fn heading_of(request: Request) -> Heading
     ensures { λ r. ⌜ HeadingOf request r ⌝ }
 {
-    let kind = in_header(request.headed, request.header.kind);
     Heading {
-        version: number_or(request.header.cluster, 0),
+        version: signed_or(request.header.cluster, 0),
         id: in_header(request.headed, request.header.connection),
         sequence: in_header(request.headed, request.header.sequence),
-        asked: asked_by(kind.has, kind.value),
+        asked: asked_in(request.headed, request.header.kind),
     }
 }
 
@@ -169,7 +178,7 @@ fn answer_request(
         × BodyLies (now command) (received .request .body) × (readingsGood (now readings) ≡ true) ⌝ }
     ensures { λ r. ⌜ (let sender = received .sender in
         let asked = commandIn (now (command .entry)) (received .request) in
-        Answers (λ s. judged s (sender .identity) (now («signing_key» .entry)) asked (now (value .entry)) (some (aclOf (table s) (sender .acl))))
+        Answers (λ s. judged s (wordOf (sender .identity)) (now («signing_key» .entry)) asked (now (value .entry)) (some (aclOf (table s) (sender .acl))))
         (before store device readings (connectionOf (sender .connection))) out (r .written) (after store device readings (connectionOf (r .connection)))) ⌝ }
 {
     let sender = received.sender;
@@ -187,7 +196,7 @@ fn answer_request(
     let code = header_fault(device, heading.version, heading.id, sequence, connection);
     if code != 0 {
         return Replied {
-            written: reply_send::send::status(out, signing_key, reply_to, code),
+            written: status(out, signing_key, reply_to, code),
             connection,
         };
     }
@@ -225,8 +234,8 @@ pub fn answer_command(
     signing_key: &[u8],
 ) -> Replied
     requires { ⌜ (4096 ≤ length (now out)) × (length (now «signing_key») ≤ 64) × Good (now store) × (tableGood (tableOf (now device)) ≡ true)
-        × (placeOf (tableOf (now device)) (sender .identity) ≡ At (sender .acl)) × (readingsGood (now readings) ≡ true) ⌝ }
-    ensures { λ r. ⌜ (let reading = decoded (sender .identity) (now («signing_key» .entry)) (decodes (now (command .entry))) in
+        × (placeOf (tableOf (now device)) (wordOf (sender .identity)) ≡ At (sender .acl)) × (readingsGood (now readings) ≡ true) ⌝ }
+    ensures { λ r. ⌜ (let reading = decoded (wordOf (sender .identity)) (now («signing_key» .entry)) (decodes (now (command .entry))) in
         Answers (λ s. respond box s (now (value .entry)) reading)
         (before store device readings (connectionOf (sender .connection))) out (r .written) (after store device readings (connectionOf (r .connection)))) ⌝ }
 {
@@ -254,7 +263,7 @@ pub fn answer_command(
         kind: INVALID_MESSAGE_TYPE,
     };
     Replied {
-        written: reply_send::send::status(out, signing_key, reply_to, INVALID_REQUEST),
+        written: status(out, signing_key, reply_to, INVALID_REQUEST),
         connection,
     }
 }

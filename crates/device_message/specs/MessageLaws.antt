@@ -7,6 +7,7 @@ use Prim.Native.Nat.{ℕ, _+_, _-_, _*_, _≤_}
 use native.Mathlib.Omega.{arith}
 use lib.ListN.{length, take, drop, getD}
 use lib.Seq.{take-at}
+use Rattle.base_integers.specs.Signed.{wordOf}
 use Rattle.fields_schema.specs.Tree.{guard, mapO}
 use Rattle.signature_hmac.specs.Hmac as signature
 use Rattle.signature_hmac.specs.Hmac.{hmac}
@@ -15,8 +16,8 @@ use Rattle.access_record.specs.Table.{aclOf, placeOf}
 use Rattle.access_record.specs.Record as access
 use Rattle.access_record.specs.Record.{tableOf, bytesAt, Placed}
 use Rattle.access_record.specs.TableLaws.{aclOf-at, place-of, length-bytesAt}
-use Rattle.access_record.specs.declared.Found.{Found}
-use Rattle.access_record.specs.declared.Found.the-variants.{At, Nobody}
+use Rattle.access_record.specs.declared.IdentityPlace.{IdentityPlace}
+use Rattle.access_record.specs.declared.IdentityPlace.the-variants.{At, Nobody}
 use Rattle.fields_encoding.specs.BasicLaws.{never}
 use Rattle.fields_write_bytes.specs.Pushed.{Starts}
 use Rattle.fields_lookup.specs.SliceLaws.{slice-at}
@@ -37,14 +38,15 @@ pub sent-as : {x y : Reply State} {n : ℕ} {out out' : List ℕ} {after : State
 sent-as {n = n} {out} {out'} {after} e h = subst (λ (x : Reply State). Sent x n out out' after) (sym e) h
 
 -- what step 1 reads
-pub sealed : (m : List ℕ) (r : Sealed) → sealedView m r ≡ readMessage m → r .ok ≡ true
-    → readMessage m ≡ some (envelope (r .identity) (take (r .hmac .start + r .hmac .len - r .hmac .start) (drop (r .hmac .start) m)) (take (r .command .start + r .command .len - r .command .start) (drop (r .command .start) m)))
-sealed m r e ok =
-    sym e ∙ ap (λ (b : Bool). guard b (envelope (r .identity) (bytesIn m (r .hmac)) (bytesIn m (r .command)))) ok
-    ∙ ap₂ (λ (x y : List ℕ). some (envelope (r .identity) x y)) (sym (slice-at m (r .hmac))) (sym (slice-at m (r .command)))
+pub sealed : (m : List ℕ) (r : Sealed) → sealedView m r ≡ readMessage m → r .ok ≡ true → {i : ℕ} → i ≡ wordOf (r .identity)
+    → readMessage m ≡ some (envelope i (take (r .hmac .start + r .hmac .len - r .hmac .start) (drop (r .hmac .start) m)) (take (r .command .start + r .command .len - r .command .start) (drop (r .command .start) m)))
+sealed m r e ok {i} ei =
+    sym e ∙ ap (λ (b : Bool). guard b (envelope (wordOf (r .identity)) (bytesIn m (r .hmac)) (bytesIn m (r .command)))) ok
+    ∙ ap (λ (i : ℕ). some (envelope i (bytesIn m (r .hmac)) (bytesIn m (r .command)))) (sym ei)
+    ∙ ap₂ (λ (x y : List ℕ). some (envelope i x y)) (sym (slice-at m (r .hmac))) (sym (slice-at m (r .command)))
 
 pub unsealed : (m : List ℕ) (r : Sealed) → sealedView m r ≡ readMessage m → r .ok ≡ false → readMessage m ≡ none
-unsealed m r e ok = sym e ∙ ap (λ (b : Bool). guard b (envelope (r .identity) (bytesIn m (r .hmac)) (bytesIn m (r .command)))) ok
+unsealed m r e ok = sym e ∙ ap (λ (b : Bool). guard b (envelope (wordOf (r .identity)) (bytesIn m (r .hmac)) (bytesIn m (r .command)))) ok
 
 -- ---- steps 1 and 2
 
@@ -65,10 +67,10 @@ module _ (s : State) (v : List ℕ) where
     looked-up = ap (λ (o : Option Envelope). respond box s v (opened hmac keyOf o)) e
 
     pub unknown : placeOf (table s) i ≡ Nobody → replyTo m ≡ close s 2
-    unknown f = looked-up ∙ ap (λ (p : Found). respond box s v (verified hmac keyOf i sig c (mapO (λ a. a .key) (aclAt s p)))) f
+    unknown f = looked-up ∙ ap (λ (p : IdentityPlace). respond box s v (verified hmac keyOf i sig c (mapO (λ a. a .key) (aclAt s p)))) f
 
     pub known : {p : ℕ} → placeOf (table s) i ≡ At p → replyTo m ≡ respond box s v (verified hmac keyOf i sig c (some (aclOf (table s) p .key)))
-    known f = looked-up ∙ ap (λ (p : Found). respond box s v (verified hmac keyOf i sig c (mapO (λ a. a .key) (aclAt s p)))) f
+    known f = looked-up ∙ ap (λ (p : IdentityPlace). respond box s v (verified hmac keyOf i sig c (mapO (λ a. a .key) (aclAt s p)))) f
 
   module _ (i : ℕ) (sig c key : List ℕ) where
     pub wrong-hmac : sameBytes sig (hmac key c) ≡ false → respond box s v (verified hmac keyOf i sig c (some key)) ≡ close s 2

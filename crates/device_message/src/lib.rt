@@ -1,5 +1,5 @@
 // Steps 1 and 2: a whole message read, its sender looked up and its hmac verified; the command is left to the steps after them.
-use access_record::Found;
+use access_record::IdentityPlace;
 use access_record::Record;
 use device_command::Sender;
 use protocol::status::CONNECTION_TERMINATED;
@@ -12,8 +12,9 @@ ghost use mathlib.Core.Bool.{true};
 ghost use mathlib.Core.Option.{some};
 ghost use Prim.Native.Nat.{_≤_};
 ghost use lib.ListN.{length, take};
+ghost use Rattle.base_integers.specs.Signed.{wordOf};
 ghost use Rattle.access_record.specs.Table.{aclOf, placeOf, tableGood};
-ghost use Rattle.access_record.specs.declared.Found.the-variants.{At};
+ghost use Rattle.access_record.specs.declared.IdentityPlace.the-variants.{At};
 ghost use Rattle.access_record.specs.Record.{tableOf, Placed};
 ghost use Rattle.signature_hmac.specs.Hmac.{hmac};
 ghost use Rattle.store_layout.specs.Store.{Good};
@@ -45,9 +46,10 @@ fn verify_sender(
     out: &mut [u8],
 ) -> Replied
     requires { ⌜ (4096 ≤ length (now out)) × Good (now store) × (tableGood (tableOf (now device)) ≡ true)
-        × (placeOf (tableOf (now device)) (sender .identity) ≡ At (sender .acl)) × (length (now command) ≤ 8192) × (readingsGood (now readings) ≡ true) ⌝ }
+        × (placeOf (tableOf (now device)) (wordOf (sender .identity)) ≡ At (sender .acl))
+        × (length (now command) ≤ 8192) × (readingsGood (now readings) ≡ true) ⌝ }
     ensures { λ r. ⌜ Answers (λ s. respond box s (now (value .entry))
-        (verified hmac (box .keyOf s) (sender .identity) (now (digest .entry)) (now (command .entry)) (some (aclOf (table s) (sender .acl) .key))))
+        (verified hmac (box .keyOf s) (wordOf (sender .identity)) (now (digest .entry)) (now (command .entry)) (some (aclOf (table s) (sender .acl) .key))))
         (before store device readings (connectionOf (sender .connection))) out (r .written) (after store device readings (connectionOf (r .connection))) ⌝ }
 {
     if !signature_hmac::verify(access_identity::key_of(device, sender.acl), command, digest) {
@@ -93,7 +95,7 @@ pub fn answer_message(
     let command = m.command.start;
     let command_end = command + m.command.len;
     match access_identity::find_identity(device, identity) {
-        Found::At(acl) => {
+        IdentityPlace::At(acl) => {
             let sender = Sender {
                 identity,
                 acl,
@@ -110,6 +112,6 @@ pub fn answer_message(
                 out,
             )
         }
-        Found::Nobody => close(connection, out, HMAC_FAILURE),
+        IdentityPlace::Nobody => close(connection, out, HMAC_FAILURE),
     }
 }

@@ -16,14 +16,14 @@ use Rattle.fields_schema.specs.Rules.{ruleOf}
 use Rattle.fields_schema.specs.Tree.{guard, later, Content, cInt, cRaw, cFix, cMsg, Item, item, add, level}
 use Rattle.fields_value.specs.Taken.{meansTaken, insideTaken}
 use Rattle.fields_rule.specs.Judged.{isSingle, Marks, Takes, Judges}
-use Rattle.fields_decode.specs.Slots.{findLast, Sized, placeOf, Shows, Holds, Tells}
+use Rattle.fields_decode.specs.Slots.{findLast, Sized, slotOf, Shows, Holds, Tells}
 use Rattle.fields_schema.specs.declared.Kind.{Kind}
 use Rattle.fields_schema.specs.OptionLaws.{nothing-some}
 use Rattle.fields_value.specs.declared.Taken.{Taken}
 use Rattle.fields_value.specs.declared.Taken.the-variants.{Number, Slice, Fixed, Inside, Wrong}
 use Rattle.fields_rule.specs.declared.Judged.{Judged}
 use Rattle.fields_rule.specs.declared.Judged.the-variants.{Refuse, Skip, Take}
-use Rattle.fields_decode.specs.declared.slots.Place.{Place}
+use Rattle.fields_decode.specs.declared.slots.Slot.{Slot}
 use Rattle.fields_decode.specs.declared.slots.Slots.{Slots}
 use Rattle.base_definitions.specs.BitsLaws.{no-bit}
 use Rattle.fields_decode.proofs.Walking.{Walk, walk-start, walk-end, walk-none, walk-refuse, walk-on}
@@ -82,19 +82,19 @@ stored k s seen value len is f n x a b w c h y o =
 data Placed (s : List ℕ) (w : Taken) (a b : ℕ) : Type 0 where
   placed : (c : Content) → meansTaken s w ≡ some c → Shows s a b c → Placed s w a b
 
-place-shows : (s : List ℕ) (w : Taken) → insideTaken s w → placeOf w .ok ≡ true → Placed s w (placeOf w .value) (placeOf w .len)
-place-shows s (Number v) i o = placed (cInt v) refl refl
-place-shows s (Slice a b) i o = placed (cRaw (take b (drop a s))) refl (refl, i)
-place-shows s (Fixed a) i o = placed (cFix (take 4 (drop a s))) refl (refl, i)
-place-shows s (Inside k a b) i o = placed (cMsg k (take b (drop a s))) refl (refl, i .0)
-place-shows s Wrong i o = let z : _≡_ {A = ℕ} 0 1 = cc in absurd (omega arith)
+slot-shows : (s : List ℕ) (w : Taken) → insideTaken s w → slotOf w .ok ≡ true → Placed s w (slotOf w .value) (slotOf w .len)
+slot-shows s (Number v) i o = placed (cInt v) refl refl
+slot-shows s (Slice a b) i o = placed (cRaw (take b (drop a s))) refl (refl, i)
+slot-shows s (Fixed a) i o = placed (cFix (take 4 (drop a s))) refl (refl, i)
+slot-shows s (Inside k a b) i o = placed (cMsg k (take b (drop a s))) refl (refl, i .0)
+slot-shows s Wrong i o = let z : _≡_ {A = ℕ} 0 1 = cc in absurd (omega arith)
 
-place-wrong : (s : List ℕ) (w : Taken) → placeOf w .ok ≡ false → meansTaken s w ≡ none
-place-wrong s (Number v) o = let z : _≡_ {A = ℕ} 0 1 = cc in absurd (omega arith)
-place-wrong s (Slice a b) o = let z : _≡_ {A = ℕ} 0 1 = cc in absurd (omega arith)
-place-wrong s (Fixed a) o = let z : _≡_ {A = ℕ} 0 1 = cc in absurd (omega arith)
-place-wrong s (Inside k a b) o = let z : _≡_ {A = ℕ} 0 1 = cc in absurd (omega arith)
-place-wrong s Wrong o = refl
+slot-wrong : (s : List ℕ) (w : Taken) → slotOf w .ok ≡ false → meansTaken s w ≡ none
+slot-wrong s (Number v) o = let z : _≡_ {A = ℕ} 0 1 = cc in absurd (omega arith)
+slot-wrong s (Slice a b) o = let z : _≡_ {A = ℕ} 0 1 = cc in absurd (omega arith)
+slot-wrong s (Fixed a) o = let z : _≡_ {A = ℕ} 0 1 = cc in absurd (omega arith)
+slot-wrong s (Inside k a b) o = let z : _≡_ {A = ℕ} 0 1 = cc in absurd (omega arith)
+slot-wrong s Wrong o = refl
 
 -- the walk ------------------------------------------------------------------------------
 pub record Going (k : Kind) (s : List ℕ) (seen : ℕ) (value len : List ℕ) (at : ℕ) : Type 0 where
@@ -133,15 +133,15 @@ module _ (k : Kind) (s : List ℕ) (seen : ℕ) (value len : List ℕ) (at : ℕ
       pub takes-below : i < 16
       takes-below = takes .below
 
-      pub going-off : (r : Slots) (o : Place) → o ≡ placeOf w → o .ok ≡ false → r .ok ≡ false → Tells k s r (level k s)
+      pub going-off : (r : Slots) (o : Slot) → o ≡ slotOf w → o .ok ≡ false → r .ok ≡ false → Tells k s r (level k s)
       going-off r o z d h =
-          let u : meansTaken s w ≡ none = place-wrong s w (sym (ap (λ (o : Place). o .ok) z) ∙ d) in
+          let u : meansTaken s w ≡ none = slot-wrong s w (sym (ap (λ (o : Slot). o .ok) z) ∙ d) in
           tells-as k s r (walk-refuse k s at (g .found) (g .walk) l f m e next p n (takes .adds ∙ ap (add i (g .found)) u)) h
 
-      pub going-on : (o : Place) → o ≡ placeOf w → o .ok ≡ true → Going k s x (set value i (o .value)) (set len i (o .len)) next
+      pub going-on : (o : Slot) → o ≡ slotOf w → o .ok ≡ true → Going k s x (set value i (o .value)) (set len i (o .len)) next
       going-on o z d =
-          subst (λ (o : Place). Going k s x (set value i (o .value)) (set len i (o .len)) next) (sym z)
-          (go (place-shows s w (takes .inside) (sym (ap (λ (o : Place). o .ok) z) ∙ d)))
+          subst (λ (o : Slot). Going k s x (set value i (o .value)) (set len i (o .len)) next) (sym z)
+          (go (slot-shows s w (takes .inside) (sym (ap (λ (o : Slot). o .ok) z) ∙ d)))
         where
           go : {a b : ℕ} → Placed s w a b → Going k s x (set value i a) (set len i b) next
           go {a} {b} (placed c u v) = record {

@@ -12,7 +12,7 @@ use Rattle.fields_rule.specs.Judged.{isSingle, Marks}
 use Rattle.fields_schema.specs.declared.Kind.{Kind}
 use Rattle.fields_value.specs.declared.Taken.{Taken}
 use Rattle.fields_value.specs.declared.Taken.the-variants.{Number, Slice, Fixed, Inside, Wrong}
-use Rattle.fields_decode.specs.declared.slots.Place.{Place}
+use Rattle.fields_decode.specs.declared.slots.Slot.{Slot}
 use Rattle.fields_decode.specs.declared.slots.Slots.{Slots}
 
 -- the last item of a number
@@ -26,12 +26,12 @@ pub record Sized (t : Slots) : Type 0 where
   pub len : length (t .len) ≡ 16
 
 -- what is stored of a field
-abbrev pub placeOf : Taken → Place
-placeOf (Number v) = record { ok = true; value = v; len = 0 }
-placeOf (Slice start len) = record { ok = true; value = start; len = len }
-placeOf (Fixed start) = record { ok = true; value = start; len = 4 }
-placeOf (Inside k start len) = record { ok = true; value = start; len = len }
-placeOf Wrong = record { ok = false; value = 0; len = 0 }
+abbrev pub slotOf : Taken → Slot
+slotOf (Number v) = record { ok = true; value = v; len = 0 }
+slotOf (Slice start len) = record { ok = true; value = start; len = len }
+slotOf (Fixed start) = record { ok = true; value = start; len = 4 }
+slotOf (Inside k start len) = record { ok = true; value = start; len = len }
+slotOf Wrong = record { ok = false; value = 0; len = 0 }
 
 -- a and b say what a field holds: the number a, or the b bytes from a, which lie inside
 abbrev pub Shows : List ℕ → ℕ → ℕ → Content → Type 0

@@ -2,7 +2,7 @@
 ghost use mathlib.Core.Path.{_≡_};
 ghost use mathlib.Core.Bool.{false};
 ghost use Rattle.fields_schema.specs.Tree.{level};
-ghost use Rattle.fields_decode.specs.Slots.{placeOf, Tells};
+ghost use Rattle.fields_decode.specs.Slots.{slotOf, Tells};
 use fields_rule::Judged;
 use fields_rule::judge;
 use fields_schema::Kind;
@@ -19,27 +19,27 @@ pub struct Slots {
 }
 
 // What is stored of a field; or it is refused.
-pub struct Place {
+pub struct Slot {
     pub ok: bool,
     pub value: u64,
     pub len: usize,
 }
 
-fn place_of(w: Taken) -> Place
-    ensures { λ r. ⌜ r ≡ placeOf w ⌝ }
+fn slot_of(w: Taken) -> Slot
+    ensures { λ r. ⌜ r ≡ slotOf w ⌝ }
 {
     match w {
-        Taken::Number(v) => Place {
+        Taken::Number(v) => Slot {
             ok: true,
             value: v,
             len: 0,
         },
-        Taken::Slice { start, len } => Place {
+        Taken::Slice { start, len } => Slot {
             ok: true,
             value: start as u64,
             len,
         },
-        Taken::Fixed { start } => Place {
+        Taken::Fixed { start } => Slot {
             ok: true,
             value: start as u64,
             len: 4,
@@ -48,12 +48,12 @@ fn place_of(w: Taken) -> Place
             kind: _,
             start,
             len,
-        } => Place {
+        } => Slot {
             ok: true,
             value: start as u64,
             len,
         },
-        Taken::Wrong => Place {
+        Taken::Wrong => Slot {
             ok: false,
             value: 0,
             len: 0,
@@ -96,7 +96,7 @@ pub fn collect(s: &[u8], kind: Kind) -> Slots
                 seen: x,
                 what,
             } => {
-                let p = place_of(what);
+                let p = slot_of(what);
                 let ok = p.ok;
                 if !ok {
                     return refused();

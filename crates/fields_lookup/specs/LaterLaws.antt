@@ -4,11 +4,13 @@ use mathlib.Core.Path.{_≡_, refl, sym, ap, _∙_, subst}
 use mathlib.Core.List.{List}
 use mathlib.Core.Option.{Option}
 use mathlib.Core.Bool.{Bool, true, false, cond}
+use Rattle.base_integers.specs.Signed.{wordOf}
 use Rattle.fields_schema.specs.Tree.{guard, Tree, later, join, intAt, rawAt}
 use Rattle.fields_schema.specs.MergedLaws.{int-join, raw-join}
-use Rattle.fields_lookup.specs.Views.{numView, bytesAt, partView}
+use Rattle.fields_lookup.specs.Views.{numView, signedView, bytesAt, partView}
 use Rattle.fields_lookup.specs.declared.parts.Num.{Num}
 use Rattle.fields_lookup.specs.declared.parts.Part.{Part}
+use Rattle.fields_lookup.specs.declared.parts.Signed.{Signed}
 
 -- it is made of an answer by `view`, which is none exactly where the answer has none
 chosen : {A B : Type 0} (view : A → Option B) (a b : A) (v : B) (has : Bool) → view a ≡ guard has v → view (cond has a b) ≡ later (guard has v) (view b)
@@ -20,6 +22,14 @@ num-later n t u b a r e f g =
     ap (λ (r : Num). numView r) e
     ∙ chosen (λ (x : Num). numView x) a b (a .value) (a .has) refl
     ∙ ap (λ o. later o (numView b)) g
+    ∙ ap (later (intAt n u)) f
+    ∙ sym (int-join n t u)
+
+pub signed-later : (n : ℕ) (t u : Tree) (b a r : Signed) → r ≡ cond (a .has) a b → signedView b ≡ intAt n t → signedView a ≡ intAt n u → signedView r ≡ intAt n (join t u)
+signed-later n t u b a r e f g =
+    ap (λ (r : Signed). signedView r) e
+    ∙ chosen (λ (x : Signed). signedView x) a b (wordOf (a .value)) (a .has) refl
+    ∙ ap (λ o. later o (signedView b)) g
     ∙ ap (later (intAt n u)) f
     ∙ sym (int-join n t u)
 

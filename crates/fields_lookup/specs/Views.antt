@@ -9,6 +9,7 @@ use Rattle.fields_schema.specs.Rules.{ruleOf}
 use Rattle.fields_schema.specs.Tree.{guard, isSome, level, Tree, join, listed, intAt, rawAt, subAt, treeIn}
 use Rattle.base_definitions.specs.Options.{orElse}
 use Rattle.base_definitions.specs.Bits.{bit}
+use Rattle.base_integers.specs.Signed.{wordOf}
 use Rattle.fields_decode.specs.Slots.{Tells}
 use Rattle.fields_schema.specs.declared.Kind.{Kind}
 use Rattle.fields_schema.specs.declared.Form.{Form}
@@ -18,6 +19,7 @@ use Rattle.fields_schema.specs.declared.Rule.the-variants.{Unlisted, Refused, O
 use Rattle.fields_decode.specs.declared.slots.Slots.{Slots}
 use Rattle.fields_lookup.specs.declared.parts.Num.{Num}
 use Rattle.fields_lookup.specs.declared.parts.Part.{Part}
+use Rattle.fields_lookup.specs.declared.parts.Signed.{Signed}
 
 -- a message that decodes, and what it says
 abbrev pub Reads : Kind → List ℕ → Type 0
@@ -29,6 +31,10 @@ treeOf k m = treeIn (listed k m)
 -- the answers
 abbrev pub numView : Num → Option ℕ
 numView n = guard (n .has) (n .value)
+
+-- of a signed number its word, which is what a tree has
+abbrev pub signedView : Signed → Option ℕ
+signedView n = guard (n .has) (wordOf (n .value))
 
 unfoldable pub bytesAt : List ℕ → Part → List ℕ
 bytesAt s p = take (p .len) (drop (p .start) s)
@@ -92,6 +98,9 @@ Alone (Repeated f) t = ⊥
 -- the number that the message has there
 abbrev pub NumIs : Slots → ℕ → Num → Type 0
 NumIs t n r = (k : Kind) (m : List ℕ) → Level k m t → isNumber (ruleOf k n) ≡ true → numView r ≡ intAt n (treeOf k m)
+
+abbrev pub SignedIs : Slots → ℕ → Signed → Type 0
+SignedIs t n r = (k : Kind) (m : List ℕ) → Level k m t → isNumber (ruleOf k n) ≡ true → signedView r ≡ intAt n (treeOf k m)
 
 -- a part where a message of kind k lies: it decodes, as the tree if there is one
 pub record Sub (k : Kind) (s : List ℕ) (r : Part) (o : Option Tree) : Type 0 where

@@ -5,7 +5,8 @@ ghost use Prim.Native.Nat.{_<_};
 ghost use Rattle.base_definitions.specs.Bits.{bit};
 ghost use Rattle.fields_schema.specs.Tree.{level};
 ghost use Rattle.fields_decode.specs.Slots.{Sized, Tells};
-ghost use Rattle.fields_lookup.specs.Views.{bytesAt, Inside, SlotInside, NumIs, PartIs};
+ghost use Rattle.fields_lookup.specs.Views.{bytesAt, Inside, SlotInside, NumIs, SignedIs, PartIs};
+use base_integers::signed;
 use fields_decode::slots::Slots;
 use fields_decode::slots::collect;
 use fields_rule::marked;
@@ -15,6 +16,12 @@ use fields_schema::Kind;
 pub struct Num {
     pub has: bool,
     pub value: u64,
+}
+
+// A signed number, if there is one.
+pub struct Signed {
+    pub has: bool,
+    pub value: i64,
 }
 
 // A part of the message, if there is one; start and len are 0 where there is none.
@@ -48,6 +55,18 @@ pub fn num_of(t: Slots, n: u64) -> Num
     Num {
         has: false,
         value: 0,
+    }
+}
+
+// The same of a signed number: 64-bit two's complement.
+pub fn signed_of(t: Slots, n: u64) -> Signed
+    requires { ⌜ (n < 16) × Sized t ⌝ }
+    ensures { λ r. ⌜ SignedIs t n r ⌝ }
+{
+    let x = num_of(t, n);
+    Signed {
+        has: x.has,
+        value: signed(x.value),
     }
 }
 
@@ -93,6 +112,17 @@ pub fn later_num(before: Num, after: Num) -> Num
         has: before.has,
         value: before.value,
     }
+}
+
+// The later signed number, or where there is none the earlier.
+pub fn later_signed(before: Signed, after: Signed) -> Signed
+    ensures { λ r. ⌜ r ≡ cond (after .has) after before ⌝ }
+{
+    let has = after.has;
+    if has {
+        return after;
+    }
+    before
 }
 
 // The later part, or where there is none the earlier.

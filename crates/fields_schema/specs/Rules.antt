@@ -53,7 +53,7 @@ repeated n f t = row n (Repeated f) t
 abbrev refused : ℕ → Table → Table
 refused n t = row n Refused t
 
--- the document's m is Nested, s Int64 (of maxReturned Int32), e Int32 or Named, f Flag, b Bytes, r refused; a status is not looked into
+-- the document's m is Nested, s Int64 (of maxReturned Int32), e Int32 or Named, f Flag, b Bytes, r refused; what is not looked into is Opaque
 abbrev command : Table
 command = single Command-header (Nested Header) (single Command-body (Nested Body) (single Command-status Opaque end))
 
@@ -83,11 +83,11 @@ tableOf KeyValue =
     (single KeyValue-synchronization (Named Synchronization) end)))))))
 tableOf Range = range
 tableOf Setup = single Setup-newClusterVersion Int64 (refused Setup-firmwareDownload end)
--- "a request's GetLog lists field 1 only", types, "one per field"
+-- "a request's GetLog lists field 1 only": types, one per field
 tableOf GetLog = repeated GetLog-types (Named LogType) end
 tableOf Security = repeated Security-acl (Nested Acl) end
 tableOf Acl = once ACL-identity Int64 (once ACL-key Bytes (once ACL-hmacAlgorithm Int32 (repeated ACL-scope (Nested Scope) end)))
--- permission: "one per field"
+-- "Permissions come one per field"
 tableOf Scope = once Scope-offset Int64 (once Scope-value Bytes (repeated Scope-permission Int32 (once Scope-TlsRequired Flag end)))
 -- for reading replies, Range 8 is a repeated b, Status 1 is e code, and of GetLog "the fields of document 003 that a built reply sends are listed";
 -- all else as listed above

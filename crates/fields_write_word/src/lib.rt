@@ -1,10 +1,10 @@
 // Words of 32 bits written into a lent buffer, each right before `at`, as the writers of bytes do.
 ghost use mathlib.Core.List.{[], _∷_};
-ghost use Prim.Native.Nat.{_≤_};
+ghost use Prim.Native.Nat.{_^_, _≤_, _<_};
 ghost use lib.ListN.{length};
 ghost use Rattle.fields_encoding.specs.Encode.{floatBytes};
 ghost use Rattle.fields_write_bytes.specs.Pushed.{Pushed};
-ghost use Rattle.fields_write_word.specs.Word.{low32Bytes};
+ghost use Rattle.base_definitions.specs.BigEndian.{be32};
 use fields_write_bytes::push_byte;
 
 // Four bytes, in this order.
@@ -18,15 +18,15 @@ fn push_four(out: &mut [u8], at: usize, a: u8, b: u8, c: u8, d: u8) -> usize
     push_byte(out, r, a)
 }
 
-// The low 32 bits of `v` as four bytes, the highest first.
+// The 32 bits of `v` as four bytes, the highest first.
 pub fn push_be32(out: &mut [u8], at: usize, v: usize) -> usize
-    requires { ⌜ (4 ≤ at) × (at ≤ length (now out)) ⌝ }
-    ensures { λ r. ⌜ Pushed r at (low32Bytes v) (now (out .entry)) (now (out .exit)) ⌝ }
+    requires { ⌜ (4 ≤ at) × (at ≤ length (now out)) × (v < 2 ^ 32) ⌝ }
+    ensures { λ r. ⌜ Pushed r at (be32 v) (now (out .entry)) (now (out .exit)) ⌝ }
 {
     push_four(
         out,
         at,
-        (v / 16777216 % 256) as u8,
+        (v / 16777216) as u8,
         (v / 65536 % 256) as u8,
         (v / 256 % 256) as u8,
         (v % 256) as u8,

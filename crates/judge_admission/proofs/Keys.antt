@@ -10,7 +10,7 @@ use Rattle.fields_lookup.specs.Views.{Inside}
 use Rattle.fields_lookup.specs.declared.parts.Part.{Part}
 use Rattle.request_command.specs.declared.Body.{Body}
 use Rattle.request_command.specs.Views.{BodyLies, bodyView}
-use Rattle.judge_permission.specs.PermissionOf.{Keys}
+use Rattle.judge_permission.specs.Keys.{Keys}
 use Rattle.fields_lookup.specs.SliceLaws.{slice-at}
 
 abbrev cut : List ℕ → Part → List ℕ

@@ -4,7 +4,7 @@ use mathlib.Core.List.{List}
 use Prim.Native.Nat.{ℕ}
 use lib.Dec.{eqb}
 use Rattle.access_record.specs.Table.{Acl}
-use Rattle.protocol.specs.declared.Operation.{Operation}
+use Rattle.protocol.specs.declared.Choice.{Choice}
 use Rattle.protocol.specs.Command.{Body}
 use Rattle.protocol.specs.Judge.{fault, permitted}
 
@@ -12,5 +12,5 @@ use Rattle.protocol.specs.Judge.{fault, permitted}
 abbrev pub both : ℕ → Bool → ℕ
 both m y = cond (eqb m 0) (cond y 0 3) m
 
-abbrev pub admission : Acl → Bool → Operation → Body → List ℕ → ℕ
-admission a p o b v = both (fault o b v) (permitted a p o b)
+abbrev pub admission : Acl → Bool → Choice → Body → List ℕ → ℕ
+admission a p x b v = both (fault (x .operation) b v) (permitted a p (x .permission) b)

@@ -5,10 +5,11 @@ use mathlib.Core.Option.{Option, none, some}
 use Prim.Native.Nat.{ℕ}
 use lib.Dec.{eqb}
 use Rattle.access_record.specs.Record.{tableOf}
+use Rattle.protocol.specs.State.{Connection}
 use Rattle.judge_header.specs.HeaderFault.{inOrder}
 
 -- the code by what the code is given
-abbrev pub faultBy : List ℕ → ℕ → Option ℕ → Option ℕ → ℕ → Option ℕ → ℕ
-faultBy d v (some c) (some q) n l = cond (eqb v (tableOf d .clusterVersion)) (cond (inOrder n l c q) 0 16) 4
-faultBy d v (some c) none n l = 6
-faultBy d v none q n l = 6
+abbrev pub faultBy : List ℕ → ℕ → Option ℕ → Option ℕ → Connection → ℕ
+faultBy d v (some c) (some q) k = cond (eqb v (tableOf d .clusterVersion)) (cond (inOrder k c q) 0 16) 4
+faultBy d v (some c) none k = 6
+faultBy d v none q k = 6

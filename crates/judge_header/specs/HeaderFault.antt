@@ -5,18 +5,18 @@ use mathlib.Core.List.{List}
 use mathlib.Core.Option.{Option, none, some}
 use Prim.Native.Nat.{ℕ}
 use lib.Dec.{eqb}
-use Rattle.protocol.specs.State.{State, table}
+use Rattle.protocol.specs.State.{Connection, State, table}
 use Rattle.protocol.specs.Command.{Header}
 use Rattle.protocol.specs.Judge.{aboveLast}
 
--- the test of step 6: number and last accepted sequence of the connection, connectionID and sequence of the request
-abbrev pub inOrder : ℕ → Option ℕ → ℕ → ℕ → Bool
-inOrder number last c q = eqb c number && aboveLast q last
+-- the test of step 6: the connection, connectionID and sequence of the request
+abbrev pub inOrder : Connection → ℕ → ℕ → Bool
+inOrder k c q = eqb c (k .number) && aboveLast q (k .last)
 
 -- steps 5 and 6 of a header with its connectionID and sequence
 abbrev pub headerRight : State → Header → ℕ → ℕ → ℕ
 headerRight s h c q =
-    cond (eqb (h .clusterVersion) (table s .clusterVersion)) (cond (inOrder (s .connection .number) (s .connection .last) c q) 0 16) 4
+    cond (eqb (h .clusterVersion) (table s .clusterVersion)) (cond (inOrder (s .connection) c q) 0 16) 4
 
 abbrev pub headerThere : State → Header → Option ℕ → Option ℕ → ℕ
 headerThere s h (some c) (some q) = headerRight s h c q
@@ -37,10 +37,9 @@ abbrev pub sequenceIn : Option Header → Option ℕ
 sequenceIn none = none
 sequenceIn (some h) = h .sequence
 
-pub record Heard (s : State) (h : Option Header) (d : List ℕ) (v : ℕ) (c q : Option ℕ) (n : ℕ) (l : Option ℕ) : Type 0 where
+pub record Heard (s : State) (h : Option Header) (d : List ℕ) (v : ℕ) (c q : Option ℕ) (k : Connection) : Type 0 where
   pub device : s .device ≡ d
   pub version : (x : Header) → h ≡ some x → x .clusterVersion ≡ v
   pub id : idIn h ≡ c
   pub sequence : sequenceIn h ≡ q
-  pub number : s .connection .number ≡ n
-  pub last : s .connection .last ≡ l
+  pub connection : s .connection ≡ k

@@ -6,17 +6,17 @@ use Rattle.access_record.specs.Table as access
 use Rattle.protocol.specs.State.{State}
 use Rattle.base_definitions.specs.Options.{orElse}
 use Rattle.protocol.specs.Command.{Header, Body}
-use Rattle.protocol.specs.declared.Operation.{Operation}
+use Rattle.protocol.specs.declared.Choice.{Choice}
 use Rattle.protocol.specs.Operation.{askedBy}
 use Rattle.protocol.specs.Judge.{Result, step7, step8, step9, step10}
 
--- steps 8 to 10 of an operation
-abbrev pub served : State → access.Acl → Operation → Body → List ℕ → Result
-served s a o b v = step8 s o b v (step9 s a o b (step10 s o b v))
+-- steps 8 to 10 of a request
+abbrev pub served : State → access.Acl → Choice → Body → List ℕ → Result
+served s a x b v = step8 s (x .operation) b v (step9 s a (x .permission) b (step10 s (x .operation) b v))
 
 -- steps 7 to 10, the sequence accepted
 abbrev pub rest : State → access.Acl → Option ℕ → Body → List ℕ → Result
-rest s a type b v = step7 s (askedBy type) (λ o. served s a o b v)
+rest s a type b v = step7 s (askedBy type) (λ x. served s a x b v)
 
 abbrev pub sequenceHeard : Option Header → ℕ
 sequenceHeard none = 0

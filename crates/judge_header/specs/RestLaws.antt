@@ -33,6 +33,6 @@ judge-by s a c v = go (c .header)
         there : (m q : Option ℕ)
             → bothThere s h m q (λ h n q. step5 s h (step6 s n q (rest (accepted s q) a (h .messageType) (c .body) v)))
             ≡ cond (eqb (headerThere s h m q) 0) (rest (accepted s (orElse 0 q)) a (h .messageType) (c .body) v) (fails s (headerThere s h m q))
-        there (some n) (some q) = tests (eqb (h .clusterVersion) (table s .clusterVersion)) (inOrder (s .connection .number) (s .connection .last) n q) (rest (accepted s q) a (h .messageType) (c .body) v)
+        there (some n) (some q) = tests (eqb (h .clusterVersion) (table s .clusterVersion)) (inOrder (s .connection) n q) (rest (accepted s q) a (h .messageType) (c .body) v)
         there (some n) none = refl
         there none q = refl

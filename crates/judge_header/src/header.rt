@@ -1,42 +1,33 @@
 // Document 01, "The order of judgement": the rules of steps 4 to 6.
 use access_record::Record;
-use base_integers::signed;
-use fields_lookup::parts::Num;
+use fields_lookup::parts::Signed;
 use protocol::status::HEADER_REQUIRED;
 use protocol::status::INVALID_REQUEST;
 use protocol::status::VERSION_FAILURE;
 use protocol_connection::Connection;
 ghost use mathlib.Core.Path.{_≡_};
 ghost use mathlib.Core.Option.{Option};
-ghost use Rattle.fields_schema.specs.Tree.{guard};
-ghost use Rattle.fields_lookup.specs.Views.{numView};
+ghost use Rattle.base_integers.specs.Signed.{wordOf};
+ghost use Rattle.fields_lookup.specs.Views.{signedView};
 ghost use Rattle.protocol.specs.State.{State};
 ghost use Rattle.protocol.specs.Command.{Header};
-ghost use Rattle.protocol.specs.Judge.{above};
+ghost use Rattle.protocol_connection.specs.ConnectionOf.{connectionOf};
 ghost use Rattle.judge_header.specs.HeaderFault.{inOrder, headerFault, Heard};
 
 // ---- step 6
 
-// Whether a sequence is above another, both 64-bit two's complement.
-pub fn above(a: u64, b: u64) -> bool
-    ensures { λ r. ⌜ r ≡ above a b ⌝ }
-{
-    let x = signed(a);
-    let y = signed(b);
-    y < x
-}
-
 // Whether connectionID is the connection's number, and the sequence above the last accepted one, if there is one.
-pub fn in_order(number: u64, seen: bool, last: u64, id: u64, sequence: u64) -> bool
-    ensures { λ r. ⌜ r ≡ inOrder number (guard seen last) id sequence ⌝ }
+fn in_order(connection: Connection, id: Signed, sequence: Signed) -> bool
+    ensures { λ r. ⌜ r ≡ inOrder (connectionOf connection) (wordOf (id .value)) (wordOf (sequence .value)) ⌝ }
 {
-    if id != number {
+    if id.value != connection.number {
         return false;
     }
+    let seen = connection.seen;
     if !seen {
         return true;
     }
-    above(sequence, last)
+    connection.last < sequence.value
 }
 
 // ---- steps 4 to 6
@@ -44,13 +35,13 @@ pub fn in_order(number: u64, seen: bool, last: u64, id: u64, sequence: u64) -> b
 // The code of the first of steps 4 to 6 that fails, or 0: by the header's clusterVersion, connectionID and sequence.
 pub fn header_fault(
     device: &Record,
-    version: u64,
-    id: Num,
-    sequence: Num,
+    version: i64,
+    id: Signed,
+    sequence: Signed,
     connection: Connection,
 ) -> u64
     ensures { λ r. ⌜ ((s : State) (h : Option Header)
-        → Heard s h (now (device .entry)) version (numView id) (numView sequence) (connection .number) (guard (connection .seen) (connection .last))
+        → Heard s h (now (device .entry)) (wordOf version) (signedView id) (signedView sequence) (connectionOf connection)
         → r ≡ headerFault s h) ⌝ }
 {
     let identified = id.has;
@@ -64,13 +55,7 @@ pub fn header_fault(
     if version != access_record::cluster_version(device) {
         return VERSION_FAILURE;
     }
-    if !in_order(
-        connection.number,
-        connection.seen,
-        connection.last,
-        id.value,
-        sequence.value,
-    ) {
+    if !in_order(connection, id, sequence) {
         return INVALID_REQUEST;
     }
     0

@@ -1,3 +1,3 @@
-pub mod PermissionOf
-pub mod Verdict
+pub mod Keys
+pub mod Numbered
 pub mod PermissionLaws

@@ -1,63 +1,50 @@
--- The verdict by what an operation needs is that of `Judge`.
+-- The verdict by the permission that is needed, and that what is asked for has its bit.
 use mathlib.Core.Path.{_≡_, refl, sym, ap, ap₂, _∙_}
-use mathlib.Core.Bool.{Bool}
+use mathlib.Core.Bool.{Bool, true}
 use mathlib.Core.List.{List}
+use mathlib.Core.Option.{Option, none, some}
 use Prim.Native.Nat.{ℕ, _<_}
-use native.Mathlib.Omega.{arith}
+use borrow.Author.Tests.{ltb-true}
+use Rattle.base_definitions.specs.Lists.{all}
 use Rattle.access_record.specs.Table as access
-use Rattle.access_permission.specs.Permission.{permits, permitsRange}
-use Rattle.protocol.specs.declared.Operation.{Operation}
-use Rattle.protocol.specs.declared.Operation.the-variants.{Noop, Get, GetVersion, GetNext, GetPrevious, GetKeyRange, Put, Delete, FlushAllData, Setup, GetLog, Security}
+use Rattle.access_permission.specs.Permission.{permits, permitsAny, permitsRange}
+use Rattle.protocol.specs.declared.Permission.{Permission}
+use Rattle.protocol.specs.declared.Permission.the-variants.{Free, Key, Both, Any}
 use Rattle.protocol.specs.Command.{Body}
+use Rattle.protocol.specs.Operation.{askedBy}
+use Rattle.protocol.specs.OperationLaws.{asked-all}
 use Rattle.protocol.specs.Judge.{permitted}
-use Rattle.judge_permission.specs.declared.Permission.{Permission}
-use Rattle.judge_permission.specs.declared.Permission.the-variants.{Key, Any}
-use Rattle.judge_permission.specs.PermissionOf.{permissionOf, Keys}
-use Rattle.judge_permission.specs.Verdict.{verdict}
+use Rattle.judge_permission.specs.Keys.{Keys}
+use Rattle.judge_permission.specs.Numbered.{numbered, askedNumbered}
 
-pub small-key : (o : Operation) (p : ℕ) → permissionOf o ≡ Key p → p < 16
-small-key Noop p e = absurd (let z : _≡_ {A = ℕ} 0 1 = cc in omega arith)
-small-key FlushAllData p e = absurd (let z : _≡_ {A = ℕ} 0 1 = cc in omega arith)
-small-key Get p e = let q : 0 ≡ p = cc in omega arith
-small-key GetVersion p e = let q : 0 ≡ p = cc in omega arith
-small-key GetNext p e = let q : 0 ≡ p = cc in omega arith
-small-key GetPrevious p e = let q : 0 ≡ p = cc in omega arith
-small-key Put p e = let q : 1 ≡ p = cc in omega arith
-small-key Delete p e = let q : 2 ≡ p = cc in omega arith
-small-key GetKeyRange p e = absurd (let z : _≡_ {A = ℕ} 0 1 = cc in omega arith)
-small-key Setup p e = absurd (let z : _≡_ {A = ℕ} 0 1 = cc in omega arith)
-small-key GetLog p e = absurd (let z : _≡_ {A = ℕ} 0 1 = cc in omega arith)
-small-key Security p e = absurd (let z : _≡_ {A = ℕ} 0 1 = cc in omega arith)
+-- what a messageType asks for has its bit
+pub asked-numbered : (type : Option ℕ) → askedNumbered (askedBy type) ≡ true
+unfolding all
+asked-numbered none = refl
+asked-numbered (some n) = asked-all askedNumbered refl refl n
 
-pub small-any : (o : Operation) (p : ℕ) → permissionOf o ≡ Any p → p < 16
-small-any Noop p e = absurd (let z : _≡_ {A = ℕ} 0 1 = cc in omega arith)
-small-any FlushAllData p e = absurd (let z : _≡_ {A = ℕ} 0 1 = cc in omega arith)
-small-any Get p e = absurd (let z : _≡_ {A = ℕ} 0 1 = cc in omega arith)
-small-any GetVersion p e = absurd (let z : _≡_ {A = ℕ} 0 1 = cc in omega arith)
-small-any GetNext p e = absurd (let z : _≡_ {A = ℕ} 0 1 = cc in omega arith)
-small-any GetPrevious p e = absurd (let z : _≡_ {A = ℕ} 0 1 = cc in omega arith)
-small-any Put p e = absurd (let z : _≡_ {A = ℕ} 0 1 = cc in omega arith)
-small-any Delete p e = absurd (let z : _≡_ {A = ℕ} 0 1 = cc in omega arith)
-small-any GetKeyRange p e = absurd (let z : _≡_ {A = ℕ} 0 1 = cc in omega arith)
-small-any Setup p e = let q : 4 ≡ p = cc in omega arith
-small-any GetLog p e = let q : 7 ≡ p = cc in omega arith
-small-any Security p e = let q : 8 ≡ p = cc in omega arith
+module _ {p : Permission} (e : numbered p ≡ true) (n : ℕ) where
+  pub key-numbered : p ≡ Key n → n < 16
+  key-numbered q = ltb-true n 16 (sym (ap numbered q) ∙ e)
 
-pub by-permission : (a : access.Acl) (w : Bool) (o : Operation) {b : Body} {key start end : List ℕ} → Keys b key start end
-    → verdict a w (permissionOf o) key start end ≡ permitted a w o b
-by-permission a w Noop k = refl
-by-permission a w FlushAllData k = refl
-by-permission a w Get k = ap (permits a w 0) (sym (k .key))
-by-permission a w GetVersion k = ap (permits a w 0) (sym (k .key))
-by-permission a w GetNext k = ap (permits a w 0) (sym (k .key))
-by-permission a w GetPrevious k = ap (permits a w 0) (sym (k .key))
-by-permission a w Put k = ap (permits a w 1) (sym (k .key))
-by-permission a w Delete k = ap (permits a w 2) (sym (k .key))
-by-permission a w GetKeyRange k = ap₂ (permitsRange a w) (sym (k .start)) (sym (k .end))
-by-permission a w Setup k = refl
-by-permission a w GetLog k = refl
-by-permission a w Security k = refl
+  pub both-numbered : p ≡ Both n → n < 16
+  both-numbered q = ltb-true n 16 (sym (ap numbered q) ∙ e)
 
-pub by-needed : (a : access.Acl) (w : Bool) (o : Operation) {p : Permission} {b : Body} {key start end : List ℕ} → permissionOf o ≡ p → Keys b key start end
-    → verdict a w p key start end ≡ permitted a w o b
-by-needed a w o {key = key} {start = start} {end = end} e k = sym (ap (λ (p : Permission). verdict a w p key start end) e) ∙ by-permission a w o k
+  pub any-numbered : p ≡ Any n → n < 16
+  any-numbered q = ltb-true n 16 (sym (ap numbered q) ∙ e)
+
+module _ (a : access.Acl) (w : Bool) {p : Permission} {b : Body} {key start end : List ℕ} (k : Keys b key start end) where
+  same : {q : Permission} → p ≡ q → permitted a w q b ≡ permitted a w p b
+  same e = ap (λ (q : Permission). permitted a w q b) (sym e)
+
+  pub by-none : p ≡ Free → true ≡ permitted a w p b
+  by-none e = same e
+
+  pub by-key : (n : ℕ) → p ≡ Key n → permits a w n key ≡ permitted a w p b
+  by-key n e = ap (permits a w n) (sym (k .key)) ∙ same e
+
+  pub by-both : (n : ℕ) → p ≡ Both n → permitsRange a w n start end ≡ permitted a w p b
+  by-both n e = ap₂ (permitsRange a w n) (sym (k .start)) (sym (k .end)) ∙ same e
+
+  pub by-any : (n : ℕ) → p ≡ Any n → permitsAny a w n ≡ permitted a w p b
+  by-any n e = same e

@@ -7,9 +7,9 @@ use Prim.Native.Nat.{ℕ, zero, suc, _+_, _≤_}
 use native.Mathlib.Omega.{arith}
 use lib.ListN.{length, getD, length-take, length-drop}
 use Rattle.store_block.specs.Entry.{Entry, noEntry}
-use Rattle.store_layout.specs.declared.Found as found
-use Rattle.store_layout.specs.declared.Place as place
-use Rattle.store_layout.specs.declared.Part.{Part}
+use Rattle.store_layout.specs.declared.KeyPlace as found
+use Rattle.store_layout.specs.declared.EntryPlace as place
+use Rattle.store_layout.specs.declared.EntryPart.{EntryPart}
 use Rattle.store_layout.specs.declared.Parts.{Parts}
 use Rattle.store_layout.specs.Store.{entriesOf, Good, AllFit}
 use Rattle.store_layout.specs.Entries.{EntryAt, Sought, findIn, partOf}
@@ -31,7 +31,7 @@ short-at [] i fs = record { key = omega arith; version = omega arith; tag = omeg
 short-at (e ∷ es) zero (AllFit.more f fs) = record { key = f .key-fits; version = f .version-fits; tag = f .tag-fits; value = f .value-fits }
 short-at (e ∷ es) (suc i) (AllFit.more f fs) = short-at es i fs
 
-long : (l : List ℕ) (p : Part) → p .start + p .len ≤ length l → length (partOf l p) ≡ p .len
+long : (l : List ℕ) (p : EntryPart) → p .start + p .len ≤ length l → length (partOf l p) ≡ p .len
 long l p h = simp (length-take, length-drop) (omega arith)
 
 module _ (l : List ℕ) (g : Good l) where
@@ -76,7 +76,7 @@ module _ (l : List ℕ) (g : Good l) where
       record { inside = tt; same = λ s q. ap (entryAt s) (f .same g ∙ ap (λ (m : List ℕ). findIn k (entriesOf m)) (sym q)) }
 
   -- a place by another name
-  pub shown-by : {r : Shown} {p : place.Place} (f : List Entry → place.Place) → p ≡ f (entriesOf l) → Showing l r (λ s. entryThere s p) → Showing l r (λ s. entryThere s (f (entries s)))
+  pub shown-by : {r : Shown} {p : place.EntryPlace} (f : List Entry → place.EntryPlace) → p ≡ f (entriesOf l) → Showing l r (λ s. entryThere s p) → Showing l r (λ s. entryThere s (f (entries s)))
   shown-by f e h =
       record { inside = h .inside; same = λ s q. h .same s q ∙ ap (entryThere s) (e ∙ ap (λ (m : List ℕ). f (entriesOf m)) (sym q)) }
 

@@ -1,6 +1,6 @@
 // Document 01, "What each does": GET, GETVERSION, GETNEXT and GETPREVIOUS over the lent store.
+use store_layout::EntryPlace;
 use store_layout::Parts;
-use store_layout::Place;
 ghost use Rattle.store_layout.specs.Store.{Good};
 ghost use Rattle.store_layout.specs.Entries.{nextIn, previousIn};
 ghost use Rattle.protocol.specs.State.{entries};
@@ -18,19 +18,19 @@ pub fn get(store: &[u8], key: &[u8]) -> Shown
     ensures { λ r. ⌜ Showing (now (store .entry)) r (λ s. entryOf s (now (key .entry))) ⌝ }
 {
     match store_find::find(store, key) {
-        store_layout::Found::At(i) => Shown::Found(store_find::entry_at(store, i)),
-        store_layout::Found::Gap(_) => Shown::Missing,
+        store_layout::KeyPlace::At(i) => Shown::Found(store_find::entry_at(store, i)),
+        store_layout::KeyPlace::Gap(_) => Shown::Missing,
     }
 }
 
 // The entry at a place.
-fn entry_shown(store: &[u8], p: Place) -> Shown
+fn entry_shown(store: &[u8], p: EntryPlace) -> Shown
     requires { ⌜ Good (now store) ⌝ }
     ensures { λ r. ⌜ Showing (now (store .entry)) r (λ s. entryThere s p) ⌝ }
 {
     match p {
-        Place::There(i) => Shown::Found(store_find::entry_at(store, i)),
-        Place::Nothing => Shown::Missing,
+        EntryPlace::There(i) => Shown::Found(store_find::entry_at(store, i)),
+        EntryPlace::Nothing => Shown::Missing,
     }
 }
 

@@ -8,7 +8,7 @@ use lib.Dec.{eqb}
 use borrow.Author.Tests.{eq-eqb, ne-eqb}
 use Rattle.base_definitions.specs.Lists.{sameBytes}
 use Rattle.store_block.specs.Entry.{Entry}
-use Rattle.store_layout.specs.declared.Found as found
+use Rattle.store_layout.specs.declared.KeyPlace as found
 use Rattle.store_layout.specs.Store.{entriesOf, Good}
 use Rattle.store_layout.specs.Entries.{findIn, deleteStore}
 use Rattle.store_layout.specs.KeptLaws.{delete-kept}
@@ -28,7 +28,7 @@ module _ {l key old : List ℕ} {f : Bool} {k : KeyValue} (g : Good l) (p : Dele
   missing : (s : State) → s .store ≡ l → entryOf s key ≡ none → deleteStore l key ≡ l
   missing s q n = go (findIn key (entriesOf l)) refl (sym (ap (λ (m : List ℕ). entryAt s (findIn key (entriesOf m))) q) ∙ n)
     where
-      go : (o : found.Found) → findIn key (entriesOf l) ≡ o → entryAt s (findIn key (entriesOf l)) ≡ none → deleteStore l key ≡ l
+      go : (o : found.KeyPlace) → findIn key (entriesOf l) ≡ o → entryAt s (findIn key (entriesOf l)) ≡ none → deleteStore l key ≡ l
       go (found.the-variants.At i) e z = never (let y = sym (ap (entryAt s) e) ∙ z in cc)
       go (found.the-variants.Gap i) e z = sym (kept l g key i (sym e) .1)
 

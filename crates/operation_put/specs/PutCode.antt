@@ -11,11 +11,11 @@ use Rattle.protocol.specs.State.{State}
 use Rattle.protocol.specs.Command.{KeyValue}
 use Rattle.protocol.specs.Judge.{Result, fails, changed}
 
--- "A new key that passes this, with no blank block: NO_SPACE (14)"
+-- "A new key that passes this, with no blank block: NO_SPACE (14)"; an entry that fits no block is INVALID_REQUEST (16)
 abbrev pub putCode : PutAnswer → ℕ
 putCode Stored = 1
 putCode Full = 14
-putCode Unfit = 14
+putCode Unfit = 16
 
 -- what a PUT's keyValue says
 pub record Puts (k : KeyValue) (key new old tag : List ℕ) (a : ℕ) (f : Bool) : Type 0 where

@@ -1,12 +1,13 @@
 // Document 01, "What each does": PUT over the lent store.
 use crate::version::compare_version;
 use crate::version::version_fits;
+use protocol::status::INVALID_REQUEST;
 use protocol::status::NO_SPACE;
 use protocol::status::SUCCESS;
 use protocol::status::VERSION_MISMATCH;
 use store_layout::PutAnswer;
 ghost use mathlib.Core.Path.{_≡_};
-ghost use Rattle.store_block.specs.Entry.{entry, Fit};
+ghost use Rattle.store_block.specs.Entry.{entry, Sized};
 ghost use Rattle.store_layout.specs.Store.{Good};
 ghost use Rattle.protocol.specs.Command.{KeyValue};
 ghost use Rattle.protocol.specs.Judge.{put};
@@ -18,7 +19,7 @@ fn put_code(a: PutAnswer) -> u64
     match a {
         PutAnswer::Stored => SUCCESS,
         PutAnswer::Full => NO_SPACE,
-        PutAnswer::Unfit => NO_SPACE,
+        PutAnswer::Unfit => INVALID_REQUEST,
     }
 }
 
@@ -33,7 +34,7 @@ pub fn put(
     force: bool,
     value: &[u8],
 ) -> u64
-    requires { ⌜ Good (now store) × Fit (entry (now key) (now new) (now tag) (now value) algorithm) ⌝ }
+    requires { ⌜ Good (now store) × Sized (entry (now key) (now new) (now tag) (now value) algorithm) ⌝ }
     ensures { λ r. ⌜ ((k : KeyValue) → Puts k (now (key .entry)) (now (new .entry)) (now (old .entry)) (now (tag .entry)) algorithm force →
         Changed (λ s. put s k (now (value .entry))) r (now (store .entry)) (now (store .exit))) ⌝ }
 {

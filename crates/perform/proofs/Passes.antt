@@ -8,7 +8,7 @@ use native.Mathlib.Omega.{arith}
 use lib.Dec.{leb}
 use lib.ListN.{length}
 use Rattle.fields_schema.specs.Tree.{guard, isSome}
-use Rattle.fields_lookup.specs.Views.{numView}
+use Rattle.fields_lookup.specs.Views.{signedView}
 use Rattle.store_layout.specs.Entries.{nextIn, previousIn}
 use Rattle.protocol.specs.declared.Operation.{Operation}
 use Rattle.protocol.specs.declared.Operation.the-variants.{Noop, Get, GetVersion, GetNext, GetPrevious, GetKeyRange, Put, Delete, FlushAllData, Setup, GetLog, Security}
@@ -51,7 +51,7 @@ wholeView s b =
     record {
       keyValue = some (keyValueView s (b .entry));
       range = some (rangeView s (b .range));
-      setup = some (numView (b .cluster));
+      setup = some (signedView (b .cluster));
       getLog = some (logTypes s);
       security = some (aclsIn s (b .security));
     }
@@ -104,7 +104,7 @@ module _ (s : List ℕ) (b : Body) (v : List ℕ) where
   step-whole t Delete e = ap (λ (k : command.KeyValue). deleteBy t k (entryOf t (k .key))) (keyed (isEmpty v) changeGood e)
   step-whole t GetKeyRange e = ap (λ (g : command.Range). succeeds t (range (keysOf g (entries t))) []) (ranged e)
   step-whole t Setup e =
-      ap (setUp t) (there none isSome refl (b .changed) (numView (b .cluster)) (beside (isEmpty v) (isSome (bodyView s b .setup)) e))
+      ap (setUp t) (there none isSome refl (b .changed) (signedView (b .cluster)) (beside (isEmpty v) (isSome (bodyView s b .setup)) e))
   step-whole t GetLog e =
       ap (logged t) (there [] (present typesGood) refl (b .logged) (logTypes s) (beside (isEmpty v) (present typesGood (bodyView s b .getLog)) e))
   step-whole t Security e =

@@ -1,7 +1,7 @@
 // Step 10: each operation done, and its reply written.
 use access_record::Record;
-use fields_lookup::parts::Num;
 use fields_lookup::parts::Part;
+use fields_lookup::parts::Signed;
 use perform_get::Which;
 use perform_get::get;
 use perform_get::get_version;
@@ -20,7 +20,7 @@ ghost use Prim.Native.Nat.{_≤_};
 ghost use lib.ListN.{length};
 ghost use Rattle.store_layout.specs.Store.{Good};
 ghost use Rattle.log_readings.specs.Lent.{readingsGood};
-ghost use Rattle.fields_lookup.specs.Views.{numView};
+ghost use Rattle.fields_lookup.specs.Views.{signedView};
 ghost use Rattle.protocol.specs.State.{Connection, State, withDevice};
 ghost use Rattle.protocol.specs.Judge.{setUp, secure, securityGood, fault, step10};
 ghost use Rattle.request_command.specs.Views.{BodyLies, bodyView};
@@ -35,11 +35,11 @@ fn setup(
     signing_key: &[u8],
     reply_to: ReplyTo,
     device: &mut Record,
-    version: Num,
+    version: Signed,
 ) -> usize
     requires { ⌜ (4096 ≤ length (now out)) × (length (now «signing_key») ≤ 64) ⌝ }
     ensures { λ r. ⌜ ((t : State) → t .device ≡ now (device .entry)
-        → Answers (λ s. replied «reply_to» (now («signing_key» .entry)) (setUp s (numView version))) t out r (withDevice t (now (device .exit)))) ⌝ }
+        → Answers (λ s. replied «reply_to» (now («signing_key» .entry)) (setUp s (signedView version))) t out r (withDevice t (now (device .exit)))) ⌝ }
 {
     operation_put::setup::setup(device, version.has, version.value);
     status(out, signing_key, reply_to, SUCCESS)

@@ -4,13 +4,14 @@ use mathlib.Core.Bool.{Bool, true}
 use mathlib.Core.List.{List}
 use Prim.Native.Nat.{ℕ, _≤_}
 use lib.ListN.{length}
-use Rattle.store_block.specs.Entry.{Entry, entry, Fit}
+use Rattle.store_block.specs.BlockLaws.{sized}
+use Rattle.store_block.specs.Entry.{Entry, entry, Sized}
 use Rattle.fields_lookup.specs.Views.{numView}
 use Rattle.base_definitions.specs.Options.{orElse}
 use Rattle.protocol.specs.Command.{flag}
 use Rattle.protocol.specs.Judge.{keyValueGood, newEntry}
 use Rattle.operation_put.specs.PutCode.{Puts}
-use Rattle.operation_put.specs.PutLaws.{put-fits}
+use Rattle.protocol.specs.PutLaws.{put-fits}
 use Rattle.operation_put.specs.DeleteCode.{Deletes}
 use Rattle.request_parts.specs.declared.KeyValue.{KeyValue}
 use Rattle.request_parts.specs.Views.{KeyValueLies, keyValueView}
@@ -34,8 +35,8 @@ module _ {s : List ℕ} {k : KeyValue} (h : KeyValueLies s k) where
           is-force = sym e;
         }
 
-    pub fits : (v : List ℕ) → keyValueGood (keyValueView s k) ≡ true → length v ≤ 384 → Fit (entry (cutAt s (k .key)) (cutAt s (k .version)) (cutAt s (k .tag)) v a)
+    pub fits : (v : List ℕ) → keyValueGood (keyValueView s k) ≡ true → length v ≤ 384 → Sized (entry (cutAt s (k .key)) (cutAt s (k .version)) (cutAt s (k .tag)) v a)
     fits v g n =
         let e : newEntry (keyValueView s k) v ≡ entry (cutAt s (k .key)) (cutAt s (k .version)) (cutAt s (k .tag)) v a = λ i.
         entry (sym (cut-part (h .key)) i) (sym (cut-part (h .version)) i) (sym (cut-part (h .tag)) i) v (sym q i) in
-        subst (λ (e : Entry). Fit e) e (put-fits (keyValueView s k) v g n (h .algorithm))
+        subst (λ (e : Entry). Sized e) e (sized (put-fits (keyValueView s k) v g n (h .algorithm)))

@@ -7,13 +7,14 @@ use access_permission::READ;
 use access_permission::SECURITY;
 use access_permission::SETUP;
 use access_permission::WRITE;
-use access_record::Found;
+use access_record::IdentityPlace;
 use access_record::Record;
 use access_record::offsets::RECORD_BYTES;
+use base_integers::word;
 use libc::STDOUT_FILENO;
 ghost use Prim.Native.Nat.{_<_};
 
-const MINUS_ONE: u64 = 0xffff_ffff_ffff_ffff;
+const MINUS_ONE: i64 = -1;
 
 // ---- the table
 
@@ -64,15 +65,15 @@ enum Verdict {
     Yes,
 }
 
-fn judge(device: &Record, identity: u64, protected: bool, permission: u8, key: &[u8]) -> Verdict
+fn judge(device: &Record, identity: i64, protected: bool, permission: u8, key: &[u8]) -> Verdict
     requires { ⌜ permission < 16 ⌝ }
 {
     if !access_check::record_good(device) {
         return Verdict::Bad;
     }
     match access_identity::find_identity(device, identity) {
-        Found::Nobody => Verdict::Nobody,
-        Found::At(place) => {
+        IdentityPlace::Nobody => Verdict::Nobody,
+        IdentityPlace::At(place) => {
             if access_verdict::verdict::permits(device, place, protected, permission, key) {
                 return Verdict::Yes;
             }
@@ -81,15 +82,15 @@ fn judge(device: &Record, identity: u64, protected: bool, permission: u8, key: &
     }
 }
 
-fn judge_any(device: &Record, identity: u64, protected: bool, permission: u8) -> Verdict
+fn judge_any(device: &Record, identity: i64, protected: bool, permission: u8) -> Verdict
     requires { ⌜ permission < 16 ⌝ }
 {
     if !access_check::record_good(device) {
         return Verdict::Bad;
     }
     match access_identity::find_identity(device, identity) {
-        Found::Nobody => Verdict::Nobody,
-        Found::At(place) => {
+        IdentityPlace::Nobody => Verdict::Nobody,
+        IdentityPlace::At(place) => {
             if access_verdict::verdict::permits_any(device, place, protected, permission) {
                 return Verdict::Yes;
             }
@@ -100,7 +101,7 @@ fn judge_any(device: &Record, identity: u64, protected: bool, permission: u8) ->
 
 fn judge_range(
     device: &Record,
-    identity: u64,
+    identity: i64,
     protected: bool,
     start: &[u8],
     end: &[u8],
@@ -109,9 +110,9 @@ fn judge_range(
         return Verdict::Bad;
     }
     match access_identity::find_identity(device, identity) {
-        Found::Nobody => Verdict::Nobody,
-        Found::At(place) => {
-            if access_verdict::verdict::permits_range(device, place, protected, start, end) {
+        IdentityPlace::Nobody => Verdict::Nobody,
+        IdentityPlace::At(place) => {
+            if access_verdict::verdict::permits_range(device, place, protected, RANGE, start, end) {
                 return Verdict::Yes;
             }
             Verdict::No
@@ -125,12 +126,12 @@ fn write(text: &[u8]) {
     io::write_all(STDOUT_FILENO, text);
 }
 
-fn write_identity(identity: u64) {
+fn write_identity(identity: i64) {
     if identity == MINUS_ONE {
         write(b"-1");
         return;
     }
-    io::print_decimal(STDOUT_FILENO, identity);
+    io::print_decimal(STDOUT_FILENO, word(identity));
 }
 
 fn write_permission(permission: u8) {
@@ -165,7 +166,7 @@ fn write_cell(protected: bool, verdict: Verdict) {
     }
 }
 
-fn cell(device: &Record, identity: u64, protected: bool, permission: u8, key: &[u8])
+fn cell(device: &Record, identity: i64, protected: bool, permission: u8, key: &[u8])
     requires { ⌜ permission < 16 ⌝ }
 {
     write_identity(identity);
@@ -177,14 +178,14 @@ fn cell(device: &Record, identity: u64, protected: bool, permission: u8, key: &[
     );
 }
 
-fn row(device: &Record, identity: u64, permission: u8, key: &[u8])
+fn row(device: &Record, identity: i64, permission: u8, key: &[u8])
     requires { ⌜ permission < 16 ⌝ }
 {
     cell(device, identity, false, permission, key);
     cell(device, identity, true, permission, key);
 }
 
-fn cell_any(device: &Record, identity: u64, protected: bool, permission: u8)
+fn cell_any(device: &Record, identity: i64, protected: bool, permission: u8)
     requires { ⌜ permission < 16 ⌝ }
 {
     write_identity(identity);
@@ -195,14 +196,14 @@ fn cell_any(device: &Record, identity: u64, protected: bool, permission: u8)
     );
 }
 
-fn row_any(device: &Record, identity: u64, permission: u8)
+fn row_any(device: &Record, identity: i64, permission: u8)
     requires { ⌜ permission < 16 ⌝ }
 {
     cell_any(device, identity, false, permission);
     cell_any(device, identity, true, permission);
 }
 
-fn cell_range(device: &Record, identity: u64, protected: bool, start: &[u8], end: &[u8]) {
+fn cell_range(device: &Record, identity: i64, protected: bool, start: &[u8], end: &[u8]) {
     write_identity(identity);
     write_permission(RANGE);
     write_key(start);
@@ -213,7 +214,7 @@ fn cell_range(device: &Record, identity: u64, protected: bool, start: &[u8], end
     );
 }
 
-fn row_range(device: &Record, identity: u64, start: &[u8], end: &[u8]) {
+fn row_range(device: &Record, identity: i64, start: &[u8], end: &[u8]) {
     cell_range(device, identity, false, start, end);
     cell_range(device, identity, true, start, end);
 }

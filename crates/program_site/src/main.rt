@@ -17,6 +17,7 @@
 use access_record::Record;
 use access_record::offsets::RECORD_BYTES;
 use base_integers::as_u64::wide;
+use base_integers::signed;
 use device::Formatted;
 use device::Response;
 use fields_repeated::next_numbered;
@@ -65,11 +66,11 @@ fn connection_at(slots: &Slots, slot: u64) -> Connection {
     let at = place(slot);
     let flags = slots[at + 1];
     Connection {
-        number: slots[at],
+        number: signed(slots[at]),
         protected: flags % 2 == 1,
         closed: flags / 2 % 2 == 1,
         seen: flags / 4 % 2 == 1,
-        last: slots[at + 2],
+        last: signed(slots[at + 2]),
     }
 }
 
@@ -88,9 +89,9 @@ fn flags_of(c: Connection) -> u64 {
 
 fn keep(slots: &mut Slots, slot: u64, c: Connection) {
     let at = place(slot);
-    slots[at] = c.number;
+    slots[at] = base_integers::word(c.number);
     slots[at + 1] = flags_of(c);
-    slots[at + 2] = c.last;
+    slots[at + 2] = base_integers::word(c.last);
 }
 
 // ---- columns
@@ -597,7 +598,7 @@ fn connect(said: &[u8], slots: &mut Slots, host: Host) -> Host {
     let after = rest(said);
     let last = rest(after);
     let slot = number(said);
-    let c = device::connect(number(after), number(last) == 1);
+    let c = device::connect(signed(number(after)), number(last) == 1);
     keep(slots, slot, c);
     let next = row(rest(last), host);
     write(b"connected\n");

@@ -1,16 +1,21 @@
 -- Step 6: "From here the sequence counts as accepted, whatever follows." A refusal at steps 4 to 6 changes nothing. The readings stay in any case.
-use Prim.Native.Nat.{ℕ, _+_, _%_, _^_}
+use Prim.Native.Nat.{ℕ}
 use native.Mathlib.Omega.{arith}
 use mathlib.Core.Path.{_≡_, refl, ap, _∙_}
 use mathlib.Core.Bool.{Bool, true, false, cond, _&&_}
 use mathlib.Core.List.{List, []}
 use mathlib.Core.Option.{Option, none, some}
 use lib.Dec.{eqb, ltb}
+use lib.IntN.{ℤ, pos, negsuc}
+use lib.Signed.{ltZ}
 use borrow.Author.Tests.{ltb-true, eqb-true, eq-eqb}
 use Rattle.fields_schema.specs.Tree.{among}
+use Rattle.base_integers.specs.Signed.{signedOf}
 use Rattle.access_record.specs.Table as access
 use Rattle.store_block.specs.Entry.{Entry}
-use Rattle.store_layout.specs.Entries.{hasRoom, nextIn, previousIn}
+use Rattle.store_layout.specs.declared.PutAnswer.{PutAnswer}
+use Rattle.store_layout.specs.declared.PutAnswer.the-variants.{Stored, Full, Unfit}
+use Rattle.store_layout.specs.Entries.{putAnswer, nextIn, previousIn}
 use Rattle.protocol.specs.declared.Operation.{Operation}
 use Rattle.protocol.specs.declared.Operation.the-variants.{Noop, Get, GetVersion, GetNext, GetPrevious, GetKeyRange, Put, Delete, FlushAllData, Setup, GetLog, Security}
 use Rattle.protocol.specs.declared.Asked.{Asked}
@@ -20,7 +25,7 @@ use Rattle.base_definitions.specs.Options.{orElse}
 use Rattle.protocol.specs.Command.{Header, KeyValue, Body, Command}
 use Rattle.protocol.specs.Operation.{askedBy}
 use Rattle.protocol.specs.Judge.{Result, fails, bothThere, step4, step5, above, aboveLast, step6, step7, fault, step8, keyValueIn, permitted, step9}
-use Rattle.protocol.specs.Judge.{entryThere, entryOf, shown, versionShown, versionRight, newEntry, put, deleteBy, setUp, step10, judge}
+use Rattle.protocol.specs.Judge.{entryThere, entryOf, shown, versionShown, versionRight, newEntry, putBy, put, deleteBy, setUp, step10, judge}
 use Rattle.protocol.specs.Passes.{Passes}
 
 -- the result leaves the connection and the readings of s as they are
@@ -42,8 +47,12 @@ keeps-version s (some e) = record { same = refl; read = refl }
 
 keeps-put : (s : State) (k : KeyValue) (v : List ℕ) → Keeps s (put s k v)
 keeps-put s k v =
-    keeps-choose s (versionRight k (entryOf s (k .key))) (keeps-choose s (hasRoom (s .store) (newEntry k v)) (record { same = refl; read = refl }) (record { same = refl; read = refl }))
-    (record { same = refl; read = refl })
+    keeps-choose s (versionRight k (entryOf s (k .key))) (by-answer (putAnswer (s .store) (newEntry k v))) (record { same = refl; read = refl })
+  where
+    by-answer : (r : PutAnswer) → Keeps s (putBy s (newEntry k v) r)
+    by-answer Stored = record { same = refl; read = refl }
+    by-answer Full = record { same = refl; read = refl }
+    by-answer Unfit = record { same = refl; read = refl }
 
 keeps-delete : (s : State) (k : KeyValue) (o : Option Entry) → Keeps s (deleteBy s k o)
 keeps-delete s k none = keeps-choose s (k .force) (record { same = refl; read = refl }) (record { same = refl; read = refl })
@@ -77,13 +86,15 @@ module _ (s : State) (a : access.Acl) (c : Command) (v : List ℕ) where
   -- steps 7 to 10
   abbrev onwards : ℕ → Asked → Result
   onwards q o =
-      step7 (accepted s q) o (λ o.
-      step8 (accepted s q) o (c .body) v (step9 (accepted s q) a o (c .body) (step10 (accepted s q) o (c .body) v)))
+      step7 (accepted s q) o (λ x.
+      step8 (accepted s q) (x .operation) (c .body) v
+      (step9 (accepted s q) a (x .permission) (c .body) (step10 (accepted s q) (x .operation) (c .body) v)))
 
   keeps-onwards : (q : ℕ) (o : Asked) → Keeps (accepted s q) (onwards q o)
-  keeps-onwards q (Request o) =
-      keeps-choose (accepted s q) (eqb (fault o (c .body) v) 0)
-      (keeps-choose (accepted s q) (permitted a (s .connection .protected) o (c .body)) (keeps-step10 (accepted s q) o (c .body) v) (record { same = refl; read = refl }))
+  keeps-onwards q (Request x) =
+      keeps-choose (accepted s q) (eqb (fault (x .operation) (c .body) v) 0)
+      (keeps-choose (accepted s q) (permitted a (s .connection .protected) (x .permission) (c .body))
+      (keeps-step10 (accepted s q) (x .operation) (c .body) v) (record { same = refl; read = refl }))
       (record { same = refl; read = refl })
   keeps-onwards q NotBuilt = record { same = refl; read = refl }
 
@@ -160,10 +171,14 @@ module _ (s : State) (a : access.Acl) (c : Command) (v : List ℕ) where
       go (some h) = both-there h (h .connectionID) (h .sequence)
 
 -- "accepting an equal sequence" is wrong: no sequence is above itself
-ltb-self : (n : ℕ) → (t : Bool) → ltb n n ≡ t → t ≡ false
+ltb-self : (n : ℕ) (t : Bool) → ltb n n ≡ t → ltb n n ≡ false
 ltb-self n true e = absurd (omega (arith, ltb-true n n e))
-ltb-self n false e = refl
+ltb-self n false e = e
+
+ltZ-self : (x : ℤ) → ltZ x x ≡ false
+ltZ-self (pos n) = ltb-self n (ltb n n) refl
+ltZ-self (negsuc n) = ltb-self n (ltb n n) refl
 
 pub not-above-self : (q : ℕ) → above q q ≡ false
 unfolding above
-not-above-self q = ltb-self ((q + 2 ^ 63) % 2 ^ 64) (ltb ((q + 2 ^ 63) % 2 ^ 64) ((q + 2 ^ 63) % 2 ^ 64)) refl
+not-above-self q = ltZ-self (signedOf q)

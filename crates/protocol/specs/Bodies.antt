@@ -32,7 +32,7 @@ Shape m GetKeyRange b v = (ks : List (List ℕ)) × (b ≡ range ks) × (v ≡ [
 
 -- no success without a built request
 abbrev pub ShapeOf : Bool → Asked → ReplyBody → List ℕ → Type 0
-ShapeOf m (Request o) b v = Shape m o b v
+ShapeOf m (Request x) b v = Shape m (x .operation) b v
 ShapeOf m NotBuilt b v = ⊥
 
 -- a result of a request, with metadataOnly or not

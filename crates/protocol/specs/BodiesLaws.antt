@@ -10,9 +10,12 @@ use Rattle.fields_schema.specs.Tree.{among}
 use Rattle.access_record.specs.Table as access
 use Rattle.access_record.specs.Record.{tableBytes, withClusterVersion}
 use Rattle.store_block.specs.Entry.{Entry}
-use Rattle.store_layout.specs.Entries.{nextIn, previousIn, hasRoom, putStore, deleteStore}
+use Rattle.store_layout.specs.declared.PutAnswer.{PutAnswer}
+use Rattle.store_layout.specs.declared.PutAnswer.the-variants.{Stored, Full, Unfit}
+use Rattle.store_layout.specs.Entries.{nextIn, previousIn, putAnswer, putStore, deleteStore}
 use Rattle.protocol.specs.declared.Operation.{Operation}
 use Rattle.protocol.specs.declared.Operation.the-variants.{Noop, Get, GetVersion, GetNext, GetPrevious, GetKeyRange, Put, Delete, FlushAllData, Setup, GetLog, Security}
+use Rattle.protocol.specs.declared.Permission.{Permission}
 use Rattle.protocol.specs.declared.Asked.{Asked}
 use Rattle.protocol.specs.declared.Asked.the-variants.{Request, NotBuilt}
 use Rattle.protocol.specs.State.{State, table, entries, withDevice, withStore, accepted}
@@ -20,7 +23,7 @@ use Rattle.base_definitions.specs.Options.{orElse}
 use Rattle.protocol.specs.Command.{Header, KeyValue, Body, Command}
 use Rattle.protocol.specs.Operation.{askedBy}
 use Rattle.protocol.specs.Judge.{ReplyBody, Result, bare, keyValue, range, log, fails, succeeds, bothThere, step4, step5, aboveLast, step6, step7, step8, step9, keyValueIn, rangeIn, permitted}
-use Rattle.protocol.specs.Judge.{entryThere, entryOf, shown, versionShown, versionRight, newEntry, put, deleteBy, keysOf, setUp, logOf, logged, wanted, step10, judge}
+use Rattle.protocol.specs.Judge.{entryThere, entryOf, shown, versionShown, versionRight, newEntry, putBy, put, deleteBy, keysOf, setUp, logOf, logged, wanted, step10, judge}
 use Rattle.protocol.specs.Box.{typeOf}
 use Rattle.protocol.specs.FaultCode.{FaultCode, nothing, no-algorithm, invalid}
 use Rattle.protocol.specs.FaultLaws.{fault-code}
@@ -29,9 +32,6 @@ use Rattle.protocol.specs.Bodies.{Shape, Bodied}
 module _ (m : Bool) where
   failed : (a : Asked) (s : State) (code : ℕ) → (code ≡ 1 → ⊥) → Bodied m a (fails s code)
   failed a s code n = record { success = λ e. absurd (n e); failure = λ h. (refl, refl) }
-
-  succeeded : (o : Operation) (s : State) (b : ReplyBody) (v : List ℕ) → Shape m o b v → Bodied m (Request o) (succeeds s b v)
-  succeeded o s b v h = record { success = λ e. h; failure = λ n. absurd (n refl) }
 
   chosen : (a : Asked) (t : Bool) (x y : Result) → Bodied m a x → Bodied m a y → Bodied m a (cond t x y)
   chosen a true x y h k = h
@@ -46,50 +46,61 @@ by-fault m a s next invalid h = failed m a s 16 (λ e. omega arith)
 
 -- ---- step 10
 
-shown-bodied : (m : Bool) (s : State) (o : Option Entry) (a : Operation)
-    → ((e : Entry) → Shape m a (keyValue (e .key) (e .version) (e .tag) (e .algorithm)) (cond m [] (e .value))) → Bodied m (Request a) (shown s m o)
-shown-bodied m s none a f = failed m (Request a) s _ (λ e. omega arith)
-shown-bodied m s (some e) a f = succeeded m a s (keyValue (e .key) (e .version) (e .tag) (e .algorithm)) (cond m [] (e .value)) (f e)
+-- an operation, whatever permission and reply type are chosen with it
+module _ (permission : Permission) (type : ℕ) where
+  abbrev asking : Operation → Asked
+  asking o = Request (record { operation = o; permission = permission; «reply_type» = type })
 
-version-bodied : (m : Bool) (s : State) (o : Option Entry) → Bodied m (Request GetVersion) (versionShown s o)
-version-bodied m s none = failed m (Request GetVersion) s _ (λ e. omega arith)
-version-bodied m s (some e) = succeeded m GetVersion s (keyValue [] (e .version) [] 0) [] (e, refl, refl)
+  succeeded : (m : Bool) (o : Operation) (s : State) (b : ReplyBody) (v : List ℕ) → Shape m o b v → Bodied m (asking o) (succeeds s b v)
+  succeeded m o s b v h = record { success = λ e. h; failure = λ n. absurd (n refl) }
 
-put-bodied : (m : Bool) (s : State) (k : KeyValue) (v : List ℕ) → Bodied m (Request Put) (put s k v)
-put-bodied m s k v =
-    chosen m (Request Put) (versionRight k (entryOf s (k .key))) _ _
-    (chosen m (Request Put) (hasRoom (s .store) (newEntry k v)) _ _
-    (succeeded m Put (withStore s (putStore (s .store) (newEntry k v))) _ [] (refl, refl)) (failed m (Request Put) s _ (λ e. omega arith)))
-    (failed m (Request Put) s _ (λ e. omega arith))
+  shown-bodied : (m : Bool) (s : State) (o : Option Entry) (a : Operation)
+      → ((e : Entry) → Shape m a (keyValue (e .key) (e .version) (e .tag) (e .algorithm)) (cond m [] (e .value))) → Bodied m (asking a) (shown s m o)
+  shown-bodied m s none a f = failed m (asking a) s _ (λ e. omega arith)
+  shown-bodied m s (some e) a f = succeeded m a s (keyValue (e .key) (e .version) (e .tag) (e .algorithm)) (cond m [] (e .value)) (f e)
 
-delete-bodied : (m : Bool) (s : State) (k : KeyValue) (o : Option Entry) → Bodied m (Request Delete) (deleteBy s k o)
-delete-bodied m s k none =
-    chosen m (Request Delete) (k .force) _ _ (succeeded m Delete (withStore s (s .store)) _ [] (refl, refl)) (failed m (Request Delete) s _ (λ e. omega arith))
-delete-bodied m s k (some e) =
-    chosen m (Request Delete) (versionRight k (some e)) _ _
-    (succeeded m Delete (withStore s (deleteStore (s .store) (k .key))) _ [] (refl, refl)) (failed m (Request Delete) s _ (λ z. omega arith))
+  version-bodied : (m : Bool) (s : State) (o : Option Entry) → Bodied m (asking GetVersion) (versionShown s o)
+  version-bodied m s none = failed m (asking GetVersion) s _ (λ e. omega arith)
+  version-bodied m s (some e) = succeeded m GetVersion s (keyValue [] (e .version) [] 0) [] (e, refl, refl)
 
-setup-bodied : (m : Bool) (s : State) (o : Option ℕ) → Bodied m (Request Setup) (setUp s o)
-setup-bodied m s none = succeeded m Setup s bare [] (refl, refl)
-setup-bodied m s (some v) = succeeded m Setup (withDevice s (withClusterVersion (s .device) v)) bare [] (refl, refl)
+  put-bodied : (m : Bool) (s : State) (k : KeyValue) (v : List ℕ) → Bodied m (asking Put) (put s k v)
+  put-bodied m s k v =
+      chosen m (asking Put) (versionRight k (entryOf s (k .key))) _ _
+      (by-answer (putAnswer (s .store) (newEntry k v))) (failed m (asking Put) s _ (λ e. omega arith))
+    where
+      by-answer : (r : PutAnswer) → Bodied m (asking Put) (putBy s (newEntry k v) r)
+      by-answer Stored = succeeded m Put (withStore s (putStore (s .store) (newEntry k v))) _ [] (refl, refl)
+      by-answer Full = failed m (asking Put) s _ (λ e. omega arith)
+      by-answer Unfit = failed m (asking Put) s _ (λ e. omega arith)
 
-log-bodied : (m : Bool) (s : State) (types : List ℕ) → Bodied m (Request GetLog) (logged s types)
-log-bodied m s types =
-    chosen m (Request GetLog) (among 7 types) _ _ (failed m (Request GetLog) s _ (λ e. omega arith)) (succeeded m GetLog s (log (logOf s types)) [] (logOf s types, refl, refl))
+  delete-bodied : (m : Bool) (s : State) (k : KeyValue) (o : Option Entry) → Bodied m (asking Delete) (deleteBy s k o)
+  delete-bodied m s k none =
+      chosen m (asking Delete) (k .force) _ _ (succeeded m Delete (withStore s (s .store)) _ [] (refl, refl)) (failed m (asking Delete) s _ (λ e. omega arith))
+  delete-bodied m s k (some e) =
+      chosen m (asking Delete) (versionRight k (some e)) _ _
+      (succeeded m Delete (withStore s (deleteStore (s .store) (k .key))) _ [] (refl, refl)) (failed m (asking Delete) s _ (λ z. omega arith))
 
-step10-bodied : (s : State) (o : Operation) (b : Body) (v : List ℕ) → Bodied (keyValueIn b .metadataOnly) (Request o) (step10 s o b v)
-step10-bodied s Noop b v = succeeded _ Noop s bare [] (refl, refl)
-step10-bodied s FlushAllData b v = succeeded _ FlushAllData s bare [] (refl, refl)
-step10-bodied s Get b v = shown-bodied _ s (entryOf s (keyValueIn b .key)) Get (λ e. (e, refl, refl))
-step10-bodied s GetVersion b v = version-bodied _ s (entryOf s (keyValueIn b .key))
-step10-bodied s GetNext b v = shown-bodied _ s (entryThere s (nextIn (keyValueIn b .key) (entries s))) GetNext (λ e. (e, refl, refl))
-step10-bodied s GetPrevious b v = shown-bodied _ s (entryThere s (previousIn (keyValueIn b .key) (entries s))) GetPrevious (λ e. (e, refl, refl))
-step10-bodied s Put b v = put-bodied _ s (keyValueIn b) v
-step10-bodied s Delete b v = delete-bodied _ s (keyValueIn b) (entryOf s (keyValueIn b .key))
-step10-bodied s GetKeyRange b v = succeeded _ GetKeyRange s (range (keysOf (rangeIn b) (entries s))) [] (keysOf (rangeIn b) (entries s), refl, refl)
-step10-bodied s Setup b v = setup-bodied _ s (orElse none (b .setup))
-step10-bodied s GetLog b v = log-bodied _ s (orElse [] (b .getLog))
-step10-bodied s Security b v = succeeded _ Security (withDevice s (tableBytes (wanted (table s .clusterVersion) (orElse [] (b .security))))) bare [] (refl, refl)
+  setup-bodied : (m : Bool) (s : State) (o : Option ℕ) → Bodied m (asking Setup) (setUp s o)
+  setup-bodied m s none = succeeded m Setup s bare [] (refl, refl)
+  setup-bodied m s (some v) = succeeded m Setup (withDevice s (withClusterVersion (s .device) v)) bare [] (refl, refl)
+
+  log-bodied : (m : Bool) (s : State) (types : List ℕ) → Bodied m (asking GetLog) (logged s types)
+  log-bodied m s types =
+      chosen m (asking GetLog) (among 7 types) _ _ (failed m (asking GetLog) s _ (λ e. omega arith)) (succeeded m GetLog s (log (logOf s types)) [] (logOf s types, refl, refl))
+
+  step10-bodied : (s : State) (o : Operation) (b : Body) (v : List ℕ) → Bodied (keyValueIn b .metadataOnly) (asking o) (step10 s o b v)
+  step10-bodied s Noop b v = succeeded _ Noop s bare [] (refl, refl)
+  step10-bodied s FlushAllData b v = succeeded _ FlushAllData s bare [] (refl, refl)
+  step10-bodied s Get b v = shown-bodied _ s (entryOf s (keyValueIn b .key)) Get (λ e. (e, refl, refl))
+  step10-bodied s GetVersion b v = version-bodied _ s (entryOf s (keyValueIn b .key))
+  step10-bodied s GetNext b v = shown-bodied _ s (entryThere s (nextIn (keyValueIn b .key) (entries s))) GetNext (λ e. (e, refl, refl))
+  step10-bodied s GetPrevious b v = shown-bodied _ s (entryThere s (previousIn (keyValueIn b .key) (entries s))) GetPrevious (λ e. (e, refl, refl))
+  step10-bodied s Put b v = put-bodied _ s (keyValueIn b) v
+  step10-bodied s Delete b v = delete-bodied _ s (keyValueIn b) (entryOf s (keyValueIn b .key))
+  step10-bodied s GetKeyRange b v = succeeded _ GetKeyRange s (range (keysOf (rangeIn b) (entries s))) [] (keysOf (rangeIn b) (entries s), refl, refl)
+  step10-bodied s Setup b v = setup-bodied _ s (orElse none (b .setup))
+  step10-bodied s GetLog b v = log-bodied _ s (orElse [] (b .getLog))
+  step10-bodied s Security b v = succeeded _ Security (withDevice s (tableBytes (wanted (table s .clusterVersion) (orElse [] (b .security))))) bare [] (refl, refl)
 
 -- ---- the whole judgement
 
@@ -99,12 +110,14 @@ module _ (s : State) (a : access.Acl) (c : Command) (v : List ℕ) where
 
   asked-bodied : (q : ℕ) (o : Asked)
       → Bodied only-metadata o
-      (step7 (accepted s q) o (λ o.
-      step8 (accepted s q) o (c .body) v (step9 (accepted s q) a o (c .body) (step10 (accepted s q) o (c .body) v))))
-  asked-bodied q (Request o) =
-      by-fault only-metadata (Request o) (accepted s q) _ (fault-code o (c .body) v)
-      (chosen only-metadata (Request o) (permitted a (s .connection .protected) o (c .body)) _ _ (step10-bodied (accepted s q) o (c .body) v)
-      (failed only-metadata (Request o) (accepted s q) _ (λ e. omega arith)))
+      (step7 (accepted s q) o (λ x.
+      step8 (accepted s q) (x .operation) (c .body) v
+      (step9 (accepted s q) a (x .permission) (c .body) (step10 (accepted s q) (x .operation) (c .body) v))))
+  asked-bodied q (Request x) =
+      by-fault only-metadata (Request x) (accepted s q) _ (fault-code (x .operation) (c .body) v)
+      (chosen only-metadata (Request x) (permitted a (s .connection .protected) (x .permission) (c .body)) _ _
+      (step10-bodied (x .permission) (x .«reply_type») (accepted s q) (x .operation) (c .body) v)
+      (failed only-metadata (Request x) (accepted s q) _ (λ e. omega arith)))
   asked-bodied q NotBuilt = failed only-metadata NotBuilt (accepted s q) _ (λ e. omega arith)
 
   pub judge-bodied : Bodied only-metadata (askedBy (typeOf (c .header))) (judge s a c v)
@@ -114,8 +127,9 @@ module _ (s : State) (a : access.Acl) (c : Command) (v : List ℕ) where
       there : (h : Header) (i q : Option ℕ)
           → Bodied only-metadata (askedBy (h .messageType)) (bothThere s h i q (λ h connection q.
           step5 s h (step6 s connection q
-          (step7 (accepted s q) (askedBy (h .messageType)) (λ o.
-          step8 (accepted s q) o (c .body) v (step9 (accepted s q) a o (c .body) (step10 (accepted s q) o (c .body) v)))))))
+          (step7 (accepted s q) (askedBy (h .messageType)) (λ x.
+          step8 (accepted s q) (x .operation) (c .body) v
+          (step9 (accepted s q) a (x .permission) (c .body) (step10 (accepted s q) (x .operation) (c .body) v)))))))
       there h (some i) (some q) =
           chosen only-metadata (askedBy (h .messageType)) (eqb (h .clusterVersion) (table s .clusterVersion)) _ _
           (chosen only-metadata (askedBy (h .messageType)) (eqb i (s .connection .number) && aboveLast q (s .connection .last)) _ _
@@ -126,7 +140,8 @@ module _ (s : State) (a : access.Acl) (c : Command) (v : List ℕ) where
 
       go : (o : Option Header) → Bodied only-metadata (askedBy (typeOf o)) (step4 s o (λ h connection q.
           step5 s h (step6 s connection q
-          (step7 (accepted s q) (askedBy (h .messageType)) (λ o.
-          step8 (accepted s q) o (c .body) v (step9 (accepted s q) a o (c .body) (step10 (accepted s q) o (c .body) v)))))))
+          (step7 (accepted s q) (askedBy (h .messageType)) (λ x.
+          step8 (accepted s q) (x .operation) (c .body) v
+          (step9 (accepted s q) a (x .permission) (c .body) (step10 (accepted s q) (x .operation) (c .body) v)))))))
       go none = failed only-metadata NotBuilt s _ (λ e. omega arith)
       go (some h) = there h (h .connectionID) (h .sequence)

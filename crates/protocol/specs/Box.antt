@@ -5,14 +5,15 @@ use Prim.Native.Nat.{ℕ}
 use Rattle.fields_schema.specs.Tree.{Tree, mapO}
 use Rattle.access_record.specs.Table as access
 use Rattle.access_record.specs.Table.{placeOf, tableGood}
-use Rattle.access_record.specs.declared.Found.{Found}
-use Rattle.access_record.specs.declared.Found.the-variants.{At, Nobody}
+use Rattle.access_record.specs.declared.IdentityPlace.{IdentityPlace}
+use Rattle.access_record.specs.declared.IdentityPlace.the-variants.{At, Nobody}
 use Rattle.store_layout.specs.Store.{storeGood}
 use Rattle.log_readings.specs.Lent.{readingsGood}
 use Rattle.signature_hmac.specs.Hmac.{hmac}
 use Rattle.protocol.specs.State.{State, table, closing}
 use Rattle.protocol.specs.Command.{Header, Command, commandOf}
-use Rattle.protocol.specs.Operation.{INVALID_MESSAGE_TYPE, askedBy, replyType}
+use Rattle.protocol.specs.MessageType.{INVALID_MESSAGE_TYPE}
+use Rattle.protocol.specs.Operation.{askedBy, replyType}
 use Rattle.protocol.specs.Judge.{Result, judge, bare}
 use Rattle.protocol.specs.Reply.{ReplyMessage, signedBy, closingWith, commandTree}
 use Rattle.protocol.specs.Answer.{Device, Reply, reply, Outcome, reading, respond, answer}
@@ -20,7 +21,7 @@ use Rattle.protocol.specs.StatusCode.{HMAC_FAILURE, INVALID_REQUEST, CON
 use Rattle.protocol.specs.Frame.{Framing, more, closes, whole}
 
 -- step 2: the ACL of an identity
-abbrev pub aclAt : State → Found → Option access.Acl
+abbrev pub aclAt : State → IdentityPlace → Option access.Acl
 aclAt s (At i) = some (access.aclOf (table s) i)
 aclAt s Nobody = none
 

@@ -8,6 +8,7 @@ use mathlib.Core.Option.{some}
 use mathlib.Core.Bool.{Bool, true, false, cond}
 use lib.ListN.{length, length-append}
 use lib.Dec.{ltb}
+use Rattle.base_definitions.specs.BigEndian.{be32}
 use Rattle.fields_schema.specs.Tree.{thenO, guard, Tree}
 use Rattle.fields_schema.specs.PutIn.{Nothing, PutIn}
 use Rattle.fields_schema.specs.PutInLaws.{put-in-same}
@@ -55,7 +56,7 @@ not-refused false true true false false o h = absurd (h 7 refl)
 not-refused false true true false true o h = refl
 
 frame-length : (m v : List ℕ) → 9 + length m + length v ≡ length (frame m v)
-unfolding frame
+unfolding frame be32
 frame-length m v = omega (arith, length-append m v)
 
 module _ (D : Device) where

@@ -1,16 +1,13 @@
 -- The frame of document 01: byte 46 hex, two lengths of four bytes, the message, the value.
-use Prim.Native.Nat.{ℕ, _+_, _*_, _/_, _%_, _≤_}
+use Prim.Native.Nat.{ℕ, _+_, _*_, _≤_}
 use mathlib.Core.List.{List, [], _∷_, _++_}
 use mathlib.Core.Bool.{Bool, false, cond}
 use lib.ListN.{length, take, drop, getD}
 use lib.Dec.{leb, eqb}
-
--- four bytes, the highest first
-abbrev pub be4 : ℕ → List ℕ
-be4 n = n / 16777216 ∷ n / 65536 % 256 ∷ n / 256 % 256 ∷ n % 256 ∷ []
+use Rattle.base_definitions.specs.BigEndian.{be32}
 
 unfoldable pub frame : List ℕ → List ℕ → List ℕ
-frame m v = 0x46 ∷ (be4 (length m) ++ (be4 (length v) ++ (m ++ v)))
+frame m v = 0x46 ∷ (be32 (length m) ++ (be32 (length v) ++ (m ++ v)))
 
 abbrev pub num4 : List ℕ → ℕ → ℕ
 num4 s i = getD s i 0 * 16777216 + getD s (i + 1) 0 * 65536 + getD s (i + 2) 0 * 256 + getD s (i + 3) 0

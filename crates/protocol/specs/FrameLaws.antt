@@ -6,10 +6,11 @@ use mathlib.Core.List.{List, _++_, append-assoc}
 use lib.ListN.{length, take, drop, length-append}
 use lib.Seq.{take-at, drop-at, drop-drop}
 use borrow.Author.Tests.{le-leb}
+use Rattle.base_definitions.specs.BigEndian.{be32}
 use Rattle.protocol.specs.Frame.{frame, whole, cutAt, frameOf, Fits}
 
-pub num-be4 : (n : ℕ) → n / 16777216 * 16777216 + n / 65536 % 256 * 65536 + n / 256 % 256 * 256 + n % 256 ≡ n
-num-be4 n = omega arith
+pub num-be32 : (n : ℕ) → n / 16777216 * 16777216 + n / 65536 % 256 * 65536 + n / 256 % 256 * 256 + n % 256 ≡ n
+num-be32 n = omega arith
 
 cut-read : (s m v rest : List ℕ) → drop 9 s ≡ m ++ (v ++ rest) → length s ≡ 9 + length (m ++ (v ++ rest)) → cutAt s (length m) (length v) ≡ whole m v rest
 cut-read s m v rest e l =
@@ -21,7 +22,7 @@ cut-read s m v rest e l =
     rw (le-leb (9 + length m + length v) (length s) (omega arith)) (rw (a, c, d))
 
 pub frame-read : {m v : List ℕ} (rest : List ℕ) → Fits m v → frameOf (frame m v ++ rest) ≡ whole m v rest
-unfolding frameOf frame
+unfolding frameOf frame be32
 frame-read {m} {v} rest h =
-    rw (num-be4 (length m), num-be4 (length v), le-leb (length m) 8192 (h .message), le-leb (length v) 1024 (h .value))
+    rw (num-be32 (length m), num-be32 (length v), le-leb (length m) 8192 (h .message), le-leb (length v) 1024 (h .value))
     (cut-read (frame m v ++ rest) m v rest (append-assoc m v rest) (omega (arith, ap length (append-assoc m v rest))))

@@ -9,8 +9,9 @@ use lib.ListN.{length, take, drop, getD, length-append, length-take, length-drop
 use lib.Seq.{drop-drop}
 use lib.Dec.{leb, eqb}
 use borrow.Author.Tests.{le-leb, lt-leb, eq-eqb, eqb-true, leb-true, leb-false}
-use Rattle.protocol.specs.Frame.{be4, frame, num4, Framing, more, closes, whole, fits, frameOf, Fits}
-use Rattle.protocol.specs.FrameLaws.{num-be4}
+use Rattle.base_definitions.specs.BigEndian.{be32}
+use Rattle.protocol.specs.Frame.{frame, num4, Framing, more, closes, whole, fits, frameOf, Fits}
+use Rattle.protocol.specs.FrameLaws.{num-be32}
 use Rattle.protocol.specs.Start.{Bytes, Start}
 
 clash : {A : Type 0} → _≡_ {A = ℕ} 0 1 → A
@@ -49,8 +50,9 @@ nine (a ∷ b ∷ c ∷ d ∷ e ∷ f ∷ g ∷ []) h = absurd (omega arith)
 nine (a ∷ b ∷ c ∷ d ∷ e ∷ f ∷ g ∷ i ∷ []) h = absurd (omega arith)
 nine (a ∷ b ∷ c ∷ d ∷ e ∷ f ∷ g ∷ i ∷ j ∷ r) h = refl
 
-be4-num : (a b c d n : ℕ) → a < 256 → b < 256 → c < 256 → d < 256 → a * 16777216 + b * 65536 + c * 256 + d ≡ n → be4 n ≡ a ∷ b ∷ c ∷ d ∷ []
-be4-num a b c d n ha hb hc hd e =
+be32-num : (a b c d n : ℕ) → a < 256 → b < 256 → c < 256 → d < 256 → a * 16777216 + b * 65536 + c * 256 + d ≡ n → be32 n ≡ a ∷ b ∷ c ∷ d ∷ []
+unfolding be32
+be32-num a b c d n ha hb hc hd e =
     let p : n / 16777216 ≡ a = omega arith in
     let q : n / 65536 % 256 ≡ b = omega arith in
     let r : n / 256 % 256 ≡ c = omega arith in
@@ -65,19 +67,19 @@ parts s a b =
 -- a list that holds a whole frame
 holds : (s : List ℕ) (a b : ℕ) → Bytes s → getD s 0 0 ≡ 70 → num4 s 1 ≡ a → num4 s 5 ≡ b → 9 + a + b ≤ length s
     → s ≡ frame (take a (drop 9 s)) (take b (drop (9 + a) s)) ++ drop (9 + a + b) s
-unfolding frame
+unfolding frame be32
 holds s a b h z p q l =
     let la : length (take a (drop 9 s)) ≡ a = simp (length-take, length-drop) (omega arith) in
     let lb : length (take b (drop (9 + a) s)) ≡ b = simp (length-take, length-drop) (omega arith) in
-    let ba = be4-num (getD s 1 0) (getD s 2 0) (getD s 3 0) (getD s 4 0) a (h 1) (h 2) (h 3) (h 4) p in
-    let bb = be4-num (getD s 5 0) (getD s 6 0) (getD s 7 0) (getD s 8 0) b (h 5) (h 6) (h 7) (h 8) q in
+    let ba = be32-num (getD s 1 0) (getD s 2 0) (getD s 3 0) (getD s 4 0) a (h 1) (h 2) (h 3) (h 4) p in
+    let bb = be32-num (getD s 5 0) (getD s 6 0) (getD s 7 0) (getD s 8 0) b (h 5) (h 6) (h 7) (h 8) q in
     nine s (omega arith)
     ∙ ap (λ x. x ∷ getD s 1 0 ∷ getD s 2 0 ∷ getD s 3 0 ∷ getD s 4 0 ∷ getD s 5 0 ∷ getD s 6 0 ∷ getD s 7 0 ∷ getD s 8 0 ∷ drop 9 s) z
     ∙ ap (λ l. 70 ∷ (l ++ (getD s 5 0 ∷ getD s 6 0 ∷ getD s 7 0 ∷ getD s 8 0 ∷ drop 9 s))) (sym ba)
-    ∙ ap (λ l. 70 ∷ (be4 a ++ (l ++ drop 9 s))) (sym bb)
-    ∙ ap (λ l. 70 ∷ (be4 a ++ (be4 b ++ l))) (sym (parts s a b) ∙ sym (append-assoc (take a (drop 9 s)) (take b (drop (9 + a) s)) (drop (9 + a + b) s)))
-    ∙ ap (λ n. 70 ∷ (be4 n ++ (be4 b ++ ((take a (drop 9 s) ++ take b (drop (9 + a) s)) ++ drop (9 + a + b) s)))) (sym la)
-    ∙ ap (λ n. 70 ∷ (be4 (length (take a (drop 9 s))) ++ (be4 n ++ ((take a (drop 9 s) ++ take b (drop (9 + a) s)) ++ drop (9 + a + b) s)))) (sym lb)
+    ∙ ap (λ l. 70 ∷ (be32 a ++ (l ++ drop 9 s))) (sym bb)
+    ∙ ap (λ l. 70 ∷ (be32 a ++ (be32 b ++ l))) (sym (parts s a b) ∙ sym (append-assoc (take a (drop 9 s)) (take b (drop (9 + a) s)) (drop (9 + a + b) s)))
+    ∙ ap (λ n. 70 ∷ (be32 n ++ (be32 b ++ ((take a (drop 9 s) ++ take b (drop (9 + a) s)) ++ drop (9 + a + b) s)))) (sym la)
+    ∙ ap (λ n. 70 ∷ (be32 (length (take a (drop 9 s))) ++ (be32 n ++ ((take a (drop 9 s) ++ take b (drop (9 + a) s)) ++ drop (9 + a + b) s)))) (sym lb)
 
 record Right (s : List ℕ) : Type 0 where
   first : getD s 0 0 ≡ 70
@@ -162,7 +164,7 @@ filled s h w l =
 
 -- MORE is given to a proper start of some frame, and only to that
 pub more-start : (xs : List ℕ) → Bytes xs → frameOf xs ≡ more → Start xs
-unfolding frameOf frame
+unfolding frameOf frame be32
 more-start [] h e = record { message = []; value = []; after = frame [] []; sizes = record { message = omega arith; value = omega arith }; proper = omega arith; is = refl }
 more-start (b ∷ r) h e = go (which b r)
   where
@@ -188,8 +190,8 @@ record Heads (m v : List ℕ) : Type 0 where
   long : length (frame m v) ≡ 9 + length m + length v
 
 heads : (m v : List ℕ) → Heads m v
-unfolding frame
-heads m v = record { first = refl; message = num-be4 (length m); value = num-be4 (length v); long = omega (arith, length-append m v) }
+unfolding frame be32
+heads m v = record { first = refl; message = num-be32 (length m); value = num-be32 (length v); long = omega (arith, length-append m v) }
 
 pub start-more : (xs : List ℕ) → Start xs → frameOf xs ≡ more
 unfolding frameOf

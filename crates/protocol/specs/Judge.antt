@@ -2,11 +2,13 @@
 use mathlib.Core.Bool.{Bool, true, false, not, cond, _&&_, _||_}
 use mathlib.Core.List.{List, [], _∷_, reverse}
 use mathlib.Core.Option.{Option, none, some}
-use Prim.Native.Nat.{ℕ, _+_, _*_, _%_, _^_}
-use lib.Dec.{eqb, leb, ltb}
+use Prim.Native.Nat.{ℕ, _*_}
+use lib.Dec.{eqb, leb}
+use lib.Signed.{ltZ}
 use lib.ListN.{length, take, getD}
 use Rattle.fields_schema.specs.Tree.{guard, isSome, among}
 use Rattle.access_record.specs.Table as access
+use Rattle.base_integers.specs.Signed.{signedOf}
 use Rattle.base_definitions.specs.Options.{orElse}
 use Rattle.base_definitions.specs.Lists.{all, within, sameBytes, mapL, isEmpty}
 use Rattle.access_record.specs.Table.{named, maskOf, tableGood}
@@ -16,15 +18,20 @@ use Rattle.store_block.specs.Order.{cmp}
 use Rattle.store_block.specs.Block.{isLess, isEqual}
 use Rattle.store_block.specs.Entry.{Entry, entry, noEntry}
 use Rattle.store_layout.specs.Store.{blocksIn, entriesOf}
-use Rattle.store_layout.specs.Entries.{findIn, nextIn, previousIn, hasRoom, putStore, deleteStore}
-use Rattle.store_layout.specs.declared.Found.{Found}
-use Rattle.store_layout.specs.declared.Found.the-variants.{At, Gap}
-use Rattle.store_layout.specs.declared.Place.{Place}
-use Rattle.store_layout.specs.declared.Place.the-variants.{There, Nothing}
+use Rattle.store_layout.specs.Entries.{findIn, nextIn, previousIn, putAnswer, putStore, deleteStore}
+use Rattle.store_layout.specs.declared.KeyPlace.{KeyPlace}
+use Rattle.store_layout.specs.declared.KeyPlace.the-variants.{At, Gap}
+use Rattle.store_layout.specs.declared.PutAnswer.{PutAnswer}
+use Rattle.store_layout.specs.declared.PutAnswer.the-variants.{Stored, Full, Unfit}
+use Rattle.store_layout.specs.declared.EntryPlace.{EntryPlace}
+use Rattle.store_layout.specs.declared.EntryPlace.the-variants.{There, Nothing}
 use Rattle.log_binary32.specs.Binary32.{portion}
 use Rattle.log_readings.specs.Lent.{Sample, utilizations, temperatures, utilizationSample, temperatureSample}
 use Rattle.protocol.specs.declared.Operation.{Operation}
 use Rattle.protocol.specs.declared.Operation.the-variants.{Noop, Get, GetVersion, GetNext, GetPrevious, GetKeyRange, Put, Delete, FlushAllData, Setup, GetLog, Security}
+use Rattle.protocol.specs.declared.Permission.{Permission}
+use Rattle.protocol.specs.declared.Permission.the-variants.{Free, Key, Both, Any}
+use Rattle.protocol.specs.declared.Choice.{Choice}
 use Rattle.protocol.specs.declared.Asked.{Asked}
 use Rattle.protocol.specs.declared.Asked.the-variants.{Request, NotBuilt}
 use Rattle.protocol.specs.State.{State, table, entries, withStore, withDevice, accepted}
@@ -32,7 +39,6 @@ use Rattle.protocol.specs.Command.{Header, KeyValue, Range, Scope, Acl, 
 use Rattle.protocol.specs.Operation.{askedBy}
 use Rattle.protocol.specs.StatusCode.{SUCCESS, NOT_AUTHORIZED, VERSION_FAILURE, HEADER_REQUIRED, NOT_FOUND, VERSION_MISMATCH, NO_SPACE, NO_SUCH_HMAC_ALGORITHM, INVALID_REQUEST}
 use Rattle.protocol.specs.LogType.{UTILIZATIONS, TEMPERATURES, CAPACITIES, CONFIGURATION, STATISTICS, MESSAGES, LIMITS, DEVICE}
-use Rattle.access_permission.specs.Permissions.{READ, WRITE, DELETE, SETUP, GETLOG, SECURITY}
 
 -- document 02, CR 1: nominalCapacityInBytes, and the 32 bits of portionFull
 pub record Capacity : Type 0 where
@@ -85,9 +91,9 @@ step5 s h next = cond (eqb (h .clusterVersion) (table s .clusterVersion)) next (
 
 -- ---- step 6: "connectionID equals the connection's, and sequence is above the last accepted: else 16"
 
--- the order of 64-bit two's complement words: that of the numbers 2^63 higher
+-- the order of the numbers that the words stand for: "Integers are 64-bit two's complement"
 unfoldable pub above : ℕ → ℕ → Bool
-above a b = ltb ((b + 2 ^ 63) % 2 ^ 64) ((a + 2 ^ 63) % 2 ^ 64)
+above a b = ltZ (signedOf b) (signedOf a)
 
 abbrev pub aboveLast : ℕ → Option ℕ → Bool
 aboveLast q none = true
@@ -98,8 +104,8 @@ step6 s c q next = cond (eqb c (s .connection .number) && aboveLast q (s .connec
 
 -- ---- step 7: "messageType is a request built here: else 16"
 
-abbrev pub step7 : State → Asked → (Operation → Result) → Result
-step7 s (Request o) next = next o
+abbrev pub step7 : State → Asked → (Choice → Result) → Result
+step7 s (Request x) next = next x
 step7 s NotBuilt next = fails s INVALID_REQUEST
 
 -- ---- step 8: "Its body part is present (NOOP and FLUSHALLDATA need none) and well formed: else 16"
@@ -145,7 +151,7 @@ permissionsGood s = within 1 9 (length (s .permissions)) && all named (s .permis
 unfoldable pub aclRead : Acl → Bool
 aclRead a = isSome (a .identity) && all permissionsGood (a .scopes)
 
--- "ACL rules": these, and every rule that the table of a device record obeys. A negative offset is a word above 64
+-- "ACL rules": these, and every rule that the table of a device record obeys
 unfoldable pub securityGood : List Acl → Bool
 securityGood acls = all aclRead acls && tableGood (wanted 0 acls)
 
@@ -190,36 +196,25 @@ keyValueIn b = orElse noKeyValue (b .keyValue)
 abbrev pub rangeIn : Body → Range
 rangeIn b = orElse noRange (b .range)
 
-abbrev pub rangePermitted : access.Acl → Bool → Range → Bool
-rangePermitted a protected r = permitsRange a protected (orElse [] (r .startKey)) (orElse [] (r .endKey))
+-- by which keys a permission is judged: "GETNEXT and GETPREVIOUS .. by the key asked with; GETKEYRANGE by startKey and endKey";
+-- "SETUP and SECURITY fit any key"
+abbrev pub permitted : access.Acl → Bool → Permission → Body → Bool
+permitted a protected Free b = true
+permitted a protected (Key p) b = permits a protected p (keyValueIn b .key)
+permitted a protected (Both p) b = permitsRange a protected p (orElse [] (rangeIn b .startKey)) (orElse [] (rangeIn b .endKey))
+permitted a protected (Any p) b = permitsAny a protected p
 
--- "READ 0: GET, GETVERSION, GETNEXT, GETPREVIOUS. WRITE 1: PUT. DELETE 2: DELETE. RANGE 3: GETKEYRANGE. SETUP 4, SECURITY 8 likewise.
--- NOOP and FLUSHALLDATA need none"; document 02: "permission GETLOG 7, any key"
-abbrev pub permitted : access.Acl → Bool → Operation → Body → Bool
-permitted a p Noop b = true
-permitted a p FlushAllData b = true
-permitted a p Get b = permits a p READ (keyValueIn b .key)
-permitted a p GetVersion b = permits a p READ (keyValueIn b .key)
-permitted a p GetNext b = permits a p READ (keyValueIn b .key)
-permitted a p GetPrevious b = permits a p READ (keyValueIn b .key)
-permitted a p Put b = permits a p WRITE (keyValueIn b .key)
-permitted a p Delete b = permits a p DELETE (keyValueIn b .key)
-permitted a p GetKeyRange b = rangePermitted a p (rangeIn b)
-permitted a p Setup b = permitsAny a p SETUP
-permitted a p GetLog b = permitsAny a p GETLOG
-permitted a p Security b = permitsAny a p SECURITY
-
-abbrev pub step9 : State → access.Acl → Operation → Body → Result → Result
-step9 s a o b next = cond (permitted a (s .connection .protected) o b) next (fails s NOT_AUTHORIZED)
+abbrev pub step9 : State → access.Acl → Permission → Body → Result → Result
+step9 s a p b next = cond (permitted a (s .connection .protected) p b) next (fails s NOT_AUTHORIZED)
 
 -- ---- step 10: "The operation", by "What each does"
 
 -- the entry under a key; at a place
-abbrev pub entryAt : State → Found → Option Entry
+abbrev pub entryAt : State → KeyPlace → Option Entry
 entryAt s (At i) = some (getD (entries s) i noEntry)
 entryAt s (Gap i) = none
 
-abbrev pub entryThere : State → Place → Option Entry
+abbrev pub entryThere : State → EntryPlace → Option Entry
 entryThere s (There i) = some (getD (entries s) i noEntry)
 entryThere s Nothing = none
 
@@ -253,11 +248,18 @@ newEntry k v = entry (k .key) (k .newVersion) (k .tag) v (k .algorithm)
 abbrev pub changed : State → List ℕ → Result
 changed s l = succeeds (withStore s l) (keyValue [] [] [] 0) []
 
--- "else VERSION_MISMATCH (8). A new key that passes this, with no blank block: NO_SPACE (14)"
+-- SUCCESS where the store takes the entry; "with no blank block: NO_SPACE (14), and only then". An entry that fits no block would be
+-- INVALID_REQUEST: `fits-or-full` of `PutLaws` shows that no command with one passes steps 3 and 8
+abbrev pub putBy : State → Entry → PutAnswer → Result
+putBy s e Stored = changed s (putStore (s .store) e)
+putBy s e Full = fails s NO_SPACE
+putBy s e Unfit = fails s INVALID_REQUEST
+
+-- "else VERSION_MISMATCH (8). A new key that passes this, with no blank block"
 abbrev pub put : State → KeyValue → List ℕ → Result
 put s k v =
     cond (versionRight k (entryOf s (k .key)))
-    (cond (hasRoom (s .store) (newEntry k v)) (changed s (putStore (s .store) (newEntry k v))) (fails s NO_SPACE))
+    (putBy s (newEntry k v) (putAnswer (s .store) (newEntry k v)))
     (fails s VERSION_MISMATCH)
 
 -- "missing key is NOT_FOUND (7), or SUCCESS with force; version as for PUT"
@@ -331,7 +333,7 @@ judge s a c v =
     step4 s (c .header) (λ h connection q.
     step5 s h
     (step6 s connection q
-    (step7 (accepted s q) (askedBy (h .messageType)) (λ o.
-    step8 (accepted s q) o (c .body) v
-    (step9 (accepted s q) a o (c .body)
-    (step10 (accepted s q) o (c .body) v))))))
+    (step7 (accepted s q) (askedBy (h .messageType)) (λ x.
+    step8 (accepted s q) (x .operation) (c .body) v
+    (step9 (accepted s q) a (x .permission) (c .body)
+    (step10 (accepted s q) (x .operation) (c .body) v))))))

@@ -2,6 +2,7 @@
 pub mod StatusCode
 pub mod AuthType
 pub mod LogType
+pub mod MessageType
 pub mod State
 pub mod Command
 pub mod Operation
@@ -27,6 +28,7 @@ pub mod ReplyFits
 pub mod FrameLaws
 pub mod DigestLaws
 pub mod WordLaws
+pub mod OperationLaws
 pub mod FaultCode
 pub mod FaultLaws
 pub mod ReplyBackLaws

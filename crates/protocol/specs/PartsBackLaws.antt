@@ -15,7 +15,8 @@ use Rattle.access_record.specs.Table as access
 use Rattle.protocol.specs.StatusCode.{HMAC_FAILURE, INVALID_REQUEST}
 use Rattle.protocol.specs.State.{State}
 use Rattle.protocol.specs.Command.{commandOf}
-use Rattle.protocol.specs.Operation.{INVALID_MESSAGE_TYPE, askedBy, replyType}
+use Rattle.protocol.specs.MessageType.{INVALID_MESSAGE_TYPE}
+use Rattle.protocol.specs.Operation.{askedBy, replyType}
 use Rattle.protocol.specs.Judge.{Capacity, Log, ReplyBody, bare, keyValue, range, log, judge}
 use Rattle.protocol.specs.Reading.{Reading, closing, undecodable, read}
 use Rattle.protocol.specs.Reply.{sampleTree, capacityTree, limitsTree, logTree, headerTree, bodyTree, statusTree, commandTree, signedBy, closingWith}

@@ -2,12 +2,12 @@
 use Prim.Native.Nat.{ℕ, _+_, _^_, _<_}
 use native.Mathlib.Omega.{arith}
 use mathlib.Core.Path.{_≡_, refl, ap, subst}
-use mathlib.Core.Bool.{Bool, true, false, cond}
+use mathlib.Core.Bool.{Bool, true, false, cond, _&&_}
 use mathlib.Core.List.{List, []}
 use mathlib.Core.Option.{Option, none, some}
 use lib.ListN.{length}
 use lib.Dec.{ltb}
-use Rattle.fields_schema.specs.Tree.{mapO, thenO, guard, Tree, listed, intAt, rawAt, subAt}
+use Rattle.fields_schema.specs.Tree.{mapO, thenO, guard, isInt32, Tree, listed, intAt, rawAt, subAt}
 use Rattle.fields_schema.specs.declared.Kind.the-variants.{Message, Command as CommandKind}
 use Rattle.fields_encoding.specs.BasicLaws.{never}
 use Rattle.access_record.specs.Table as access
@@ -15,15 +15,13 @@ use Rattle.access_record.specs.Table.{tableGood}
 use Rattle.store_layout.specs.Store.{storeGood}
 use Rattle.log_readings.specs.Lent.{readingsGood}
 use Rattle.signature_hmac.specs.Hmac.{hmac}
-use Rattle.protocol.specs.declared.Operation.the-variants.{Noop, Get, GetVersion, GetNext, GetPrevious, GetKeyRange, Put, Delete, FlushAllData, Setup, GetLog, Security}
-use Rattle.protocol.specs.declared.Asked.{Asked}
-use Rattle.protocol.specs.declared.Asked.the-variants.{Request, NotBuilt}
 use Rattle.protocol.specs.Frame.{Framing, more, closes, whole, frameOf}
 use Rattle.protocol.specs.State.{State, table}
 use Rattle.protocol.specs.Command.{headerOf, commandOf}
 use Rattle.protocol.specs.Operation.{askedBy, replyType}
+use Rattle.protocol.specs.OperationLaws.{asked-all}
 use Rattle.protocol.specs.Judge.{judge}
-use Rattle.base_definitions.specs.Lists.{sameBytes}
+use Rattle.base_definitions.specs.Lists.{all, sameBytes}
 use Rattle.base_definitions.specs.Options.{orElse}
 use Rattle.protocol.specs.Reading.{securityOnce, sentOnce, decodes, Envelope, envelope, sealed, isOne, envelopeOf, readMessage, Reading, closing, undecodable, read, decoded, verified, opened, readingBy}
 use Rattle.protocol.specs.Answer.{Outcome, refused, answered, unlessRefused, reading, serve, respond, taking, answer}
@@ -101,20 +99,10 @@ module _ (keyOf : ℕ → Option (List ℕ)) where
 
 -- ---- the parts of a reply
 
-type-fits : (a : Asked) → TypeFits (replyType a)
-type-fits (Request Noop) = known-type refl
-type-fits (Request Get) = known-type refl
-type-fits (Request GetVersion) = known-type refl
-type-fits (Request GetNext) = known-type refl
-type-fits (Request GetPrevious) = known-type refl
-type-fits (Request GetKeyRange) = known-type refl
-type-fits (Request Put) = known-type refl
-type-fits (Request Delete) = known-type refl
-type-fits (Request FlushAllData) = known-type refl
-type-fits (Request Setup) = known-type refl
-type-fits (Request GetLog) = known-type refl
-type-fits (Request Security) = known-type refl
-type-fits NotBuilt = known-type refl
+type-fits : (type : Option ℕ) → TypeFits (replyType (askedBy type))
+unfolding all
+type-fits none = known-type refl
+type-fits (some n) = known-type (asked-all (λ a. ltb (replyType a) (2 ^ 64) && isInt32 (replyType a)) refl refl n)
 
 sequence-word : (t : Tree) {q : ℕ} → Words t → sequenceOf (commandOf t .header) ≡ some q → q < 2 ^ 64
 sequence-word t {q} w e = go (subAt 1 t) (λ u z. sub-words-at 1 t w z) e
@@ -144,7 +132,7 @@ module _ (s : State) (word : s .connection .number < 2 ^ 64) where
           identity-word = h;
           connection-word = word;
           ack-word = λ q z. sequence-word t w z;
-          type-fits = type-fits (askedBy (typeOf (commandOf t .header)));
+          type-fits = type-fits (typeOf (commandOf t .header));
           body-good = j .body;
           code-named = j .code;
           value-short = j .value;
@@ -159,7 +147,7 @@ module _ (s : State) (word : s .connection .number < 2 ^ 64) where
           identity-word = h;
           connection-word = word;
           ack-word = λ q z. never (cc);
-          type-fits = type-fits NotBuilt;
+          type-fits = type-fits none;
           body-good = bares;
           code-named = known-code refl;
           value-short = omega arith;

@@ -8,6 +8,7 @@ use mathlib.Core.Option.{Option, none, some}
 use lib.ListN.{length, length-append}
 use lib.Dec.{ltb}
 use borrow.Author.Tests.{ltb-true}
+use Rattle.base_definitions.specs.BigEndian.{be32}
 use Rattle.fields_schema.specs.Rules.{namesOf}
 use Rattle.fields_schema.specs.Tree.{mapO, guard, isInt32, among, Tree, done, int}
 use Rattle.fields_schema.specs.declared.Kind.the-variants.{Message, HmacAuth, Header, KeyValue, ReplyCommand, ReplyBody, ReplyRange, ReplyGetLog, Utilization, Temperature, Capacity, Limits, Status}
@@ -43,7 +44,7 @@ pub known-type : {type : ℕ} → (ltb type (2 ^ 64) && isInt32 type) ≡ true �
 known-type {type} e = let p = both-true (ltb type (2 ^ 64)) (isInt32 type) e in record { word = ltb-true type (2 ^ 64) (p .0); enum = p .1 }
 
 frame-length : (m v : List ℕ) → length (frame m v) ≡ 9 + length m + length v
-unfolding frame
+unfolding frame be32
 frame-length m v = omega (arith, length-append m v)
 
 -- ---- the command

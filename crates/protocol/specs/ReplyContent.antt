@@ -7,7 +7,8 @@ use Rattle.protocol.specs.StatusCode.{HMAC_FAILURE, INVALID_REQUEST, CON
 use Rattle.protocol.specs.Frame.{Framing, more, closes, whole}
 use Rattle.protocol.specs.State.{State}
 use Rattle.protocol.specs.Command.{Command, commandOf}
-use Rattle.protocol.specs.Operation.{INVALID_MESSAGE_TYPE, askedBy, replyType}
+use Rattle.protocol.specs.MessageType.{INVALID_MESSAGE_TYPE}
+use Rattle.protocol.specs.Operation.{askedBy, replyType}
 use Rattle.protocol.specs.Judge.{ReplyBody, bare, Result, judge}
 use Rattle.protocol.specs.Reading.{Reading, closing, undecodable, read}
 use Rattle.protocol.specs.Answer.{reading}

@@ -15,16 +15,19 @@ use Rattle.access_record.specs.Table as access
 use Rattle.store_block.specs.Entry.{Entry, noEntry, Fit}
 use Rattle.store_layout.specs.Store.{blocksIn, AllFit, Good, storeGood}
 use Rattle.store_layout.specs.CheckLaws.{store-decides}
-use Rattle.store_layout.specs.Entries.{hasRoom, putStore, deleteStore, findIn, nextIn, previousIn}
+use Rattle.store_layout.specs.declared.PutAnswer.{PutAnswer}
+use Rattle.store_layout.specs.declared.PutAnswer.the-variants.{Stored, Full, Unfit}
+use Rattle.store_layout.specs.Entries.{putAnswer, putStore, deleteStore, findIn, nextIn, previousIn}
 use Rattle.log_readings.specs.Lent.{Lent, Sample, placeAt, placesFrom, temperatures, utilizations, readingsGood, temperatureSample, utilizationSample}
 use Rattle.log_readings.specs.Places.{Placed}
 use Rattle.log_readings.specs.LentLaws.{name-bounds, good-temperatures, good-utilizations, temperatures-placed, utilizations-placed}
-use Rattle.store_layout.specs.declared.Found.{Found}
-use Rattle.store_layout.specs.declared.Found.the-variants.{At, Gap}
-use Rattle.store_layout.specs.declared.Place.{Place}
-use Rattle.store_layout.specs.declared.Place.the-variants.{There, Nothing}
+use Rattle.store_layout.specs.declared.KeyPlace.{KeyPlace}
+use Rattle.store_layout.specs.declared.KeyPlace.the-variants.{At, Gap}
+use Rattle.store_layout.specs.declared.EntryPlace.{EntryPlace}
+use Rattle.store_layout.specs.declared.EntryPlace.the-variants.{There, Nothing}
 use Rattle.protocol.specs.declared.Operation.{Operation}
 use Rattle.protocol.specs.declared.Operation.the-variants.{Noop, Get, GetVersion, GetNext, GetPrevious, GetKeyRange, Put, Delete, FlushAllData, Setup, GetLog, Security}
+use Rattle.protocol.specs.declared.Choice.{Choice}
 use Rattle.protocol.specs.declared.Asked.{Asked}
 use Rattle.protocol.specs.declared.Asked.the-variants.{Request, NotBuilt}
 use Rattle.protocol.specs.State.{State, table, entries, withStore, accepted}
@@ -33,7 +36,7 @@ use Rattle.base_definitions.specs.Options.{orElse}
 use Rattle.protocol.specs.Command.{Header, KeyValue, Range, Body, Command}
 use Rattle.protocol.specs.Operation.{askedBy}
 use Rattle.protocol.specs.Judge.{Capacity, ReplyBody, Result, bare, keyValue, range, log, fails, succeeds, bothThere, step4, aboveLast, step7, present, rangeGood, broken, fault, step8}
-use Rattle.protocol.specs.Judge.{noRange, keyValueIn, rangeIn, permitted, entryAt, entryThere, entryOf, shown, versionShown, versionRight, newEntry, changed, put, deleteBy, inRange, keysIn, keysOf, setUp, capacityOf, logWith, logOf, logged, step10, judge}
+use Rattle.protocol.specs.Judge.{noRange, keyValueIn, rangeIn, permitted, entryAt, entryThere, entryOf, shown, versionShown, versionRight, newEntry, changed, putBy, put, deleteBy, inRange, keysIn, keysOf, setUp, capacityOf, logWith, logOf, logged, step10, judge}
 use Rattle.protocol.specs.FaultCode.{FaultCode, nothing, no-algorithm, invalid}
 use Rattle.protocol.specs.FaultLaws.{fault-code}
 use Rattle.protocol.specs.ReplyFits.{CodeNamed, ShortNames, LogFits, BodyFits, bares, keyValues, ranges, logs}
@@ -61,8 +64,8 @@ step4-sent : (s : State) (o : Option Header) (next : Header → ℕ → ℕ → 
 step4-sent s none next f = failing s _ (known-code refl)
 step4-sent s (some h) next f = there s h (h .connectionID) (h .sequence) next f
 
-step7-sent : (s : State) (a : Asked) (next : Operation → Result) → ((o : Operation) → Sendable (next o)) → Sendable (step7 s a next)
-step7-sent s (Request o) next f = f o
+step7-sent : (s : State) (a : Asked) (next : Choice → Result) → ((x : Choice) → Sendable (next x)) → Sendable (step7 s a next)
+step7-sent s (Request x) next f = f x
 step7-sent s NotBuilt next f = failing s _ (known-code refl)
 
 -- ---- step 8
@@ -93,12 +96,12 @@ some-fits none = Unit {0}
 some-fits (some e) = PartsFit e
 
 module _ (s : State) (fit : AllFit (entries s)) where
-  entry-at : (f : Found) → some-fits (entryAt s f)
+  entry-at : (f : KeyPlace) → some-fits (entryAt s f)
   unfolding some-fits
   entry-at (At i) = at-fits fit i
   entry-at (Gap i) = record {}
 
-  entry-there : (p : Place) → some-fits (entryThere s p)
+  entry-there : (p : EntryPlace) → some-fits (entryThere s p)
   unfolding some-fits
   entry-there (There i) = at-fits fit i
   entry-there Nothing = record {}
@@ -124,8 +127,12 @@ changed-sent s l = succeeding (withStore s l) (keyValue [] [] [] 0) [] (keyValue
 put-sent : (s : State) (k : KeyValue) (v : List ℕ) → Sendable (put s k v)
 put-sent s k v =
     choosing (versionRight k (entryOf s (k .key)))
-    (choosing (hasRoom (s .store) (newEntry k v)) (changed-sent s (putStore (s .store) (newEntry k v))) (failing s _ (known-code refl)))
-    (failing s _ (known-code refl))
+    (by-answer (putAnswer (s .store) (newEntry k v))) (failing s _ (known-code refl))
+  where
+    by-answer : (r : PutAnswer) → Sendable (putBy s (newEntry k v) r)
+    by-answer Stored = changed-sent s (putStore (s .store) (newEntry k v))
+    by-answer Full = failing s _ (known-code refl)
+    by-answer Unfit = failing s _ (known-code refl)
 
 delete-sent : (s : State) (k : KeyValue) (o : Option Entry) → Sendable (deleteBy s k o)
 delete-sent s k none = choosing (k .force) (changed-sent s (s .store)) (failing s _ (known-code refl))
@@ -280,8 +287,9 @@ judge-sent s a c v good r =
     step4-sent s (c .header) _ (λ h connection q.
     choosing (eqb (h .clusterVersion) (table s .clusterVersion))
     (choosing (eqb connection (s .connection .number) && aboveLast q (s .connection .last))
-    (step7-sent (accepted s q) (askedBy (h .messageType)) _ (λ o.
-    step8-sent (accepted s q) o (c .body) v _ (λ e.
-    choosing (permitted a (s .connection .protected) o (c .body)) (step10-sent (accepted s q) o (c .body) v g r e) (failing (accepted s q) _ (known-code refl)))))
+    (step7-sent (accepted s q) (askedBy (h .messageType)) _ (λ x.
+    step8-sent (accepted s q) (x .operation) (c .body) v _ (λ e.
+    choosing (permitted a (s .connection .protected) (x .permission) (c .body))
+    (step10-sent (accepted s q) (x .operation) (c .body) v g r e) (failing (accepted s q) _ (known-code refl)))))
     (failing s _ (known-code refl)))
     (failing s _ (known-code refl)))

@@ -23,11 +23,11 @@ use Rattle.store_block.specs.OrderLaws.{cmp-flip}
 use Rattle.store_block.specs.Entry.{Entry, entry, noEntry}
 use Rattle.store_block.specs.Block.{sumFrom, head, body, block, isLess, isEqual}
 use Rattle.store_layout.specs.Entries.{byOrder, nextFrom, nextIn, previousFrom, previousIn}
-use Rattle.store_layout.specs.declared.Place.the-variants.{There}
+use Rattle.store_layout.specs.declared.EntryPlace.the-variants.{There}
 use Rattle.protocol.specs.Frame.{frame}
 use Rattle.protocol.specs.State.{State, table, entries}
 use Rattle.protocol.specs.Command.{Range}
-use Rattle.protocol.specs.Operation.{asked}
+use Rattle.protocol.specs.Operation.{asked, askedIn}
 use Rattle.protocol.specs.Judge.{aboveLast, judge, range, succeeds, shown, entryThere, inRange, keysIn, keysOf}
 use Rattle.protocol.specs.Reply.{signedBy, signedTree, signedReply, closingReply}
 use Rattle.protocol.specs.DigestLaws.{hmac-length}
@@ -36,7 +36,7 @@ use Rattle.protocol.specs.Worked.{noop, noop-response, key-of, same-ends
 
 w1-told : (s : State) (a : access.Acl) (key : List ℕ) → s .connection .number ≡ 1 → table s .clusterVersion ≡ 0 → aboveLast 2 (s .connection .last) ≡ true
     → messageIn (commandReply s 1 key noop (judge s a noop [])) ≡ signedBy 1 key noop-response []
-unfolding judge asked
+unfolding judge asked askedIn
 w1-told s a key n v l = rw (v, l, n)
 
 -- an HMACauth of identity 1 with any 20 bytes
@@ -45,7 +45,7 @@ unfolding encode varintUp
 w1-auth h e = rw e (ap (λ l. 0x08 ∷ 0x01 ∷ 0x12 ∷ 0x14 ∷ l) (append-nil h))
 
 w1-length : (h : List ℕ) → length h ≡ 20 → length (intField 4 1 ++ (lenField 5 (0x08 ∷ 0x01 ∷ 0x12 ∷ 0x14 ∷ h) ++ (lenField 7 (encode noop-response) ++ []))) ≡ 42
-unfolding encode intO varintUp asked
+unfolding encode intO varintUp asked askedIn
 w1-length h e = rw e (omega (arith, length-append h (0x3A ∷ 0x0C ∷ encode noop-response)))
 
 w1-message : (key : List ℕ) → length (encode (signedTree 1 key (encode noop-response))) ≡ 42
@@ -56,7 +56,7 @@ w1-message key =
     ∙ w1-length h (hmac-length key (encode noop-response))
 
 w1-whole : (key : List ℕ) → length (signedReply 1 key noop-response []) ≡ 51
-unfolding signedReply frame
+unfolding signedReply frame be32
 w1-whole key = let m = encode (signedTree 1 key (encode noop-response)) in omega (arith, length-append m [], w1-message key)
 
 -- the entries that are stored, whatever they hold beside their keys
@@ -99,7 +99,7 @@ unfolding keysOf
 w11 k i j n r es h = empty-list n r (keysIn (same-ends k i j n r) es) (no-keys (same-ends k i j n r) (none-between k i j n r h) es)
 
 pub readings : Readings
-unfolding closingReply frame encode varintUp intO asked sumFrom body head fill be32 block fits fitsAt sameBytes nextIn nextFrom previousIn previousFrom cmp byOrder
+unfolding closingReply frame encode varintUp intO asked askedIn sumFrom body head fill be32 block fits fitsAt sameBytes nextIn nextFrom previousIn previousFrom cmp byOrder
 readings = record {
   W1 = (w1-told, refl, λ key. (w1-message key, w1-whole key));
   W2 = refl;

@@ -20,8 +20,23 @@ pub enum Operation {
     Security,
 }
 
+// The permission that a request needs, by its number: none, one for its key, one for both of its range keys, or one for any key.
+pub enum Permission {
+    Free,
+    Key(u8),
+    Both(u8),
+    Any(u8),
+}
+
+// What the messageType of a request chooses.
+pub struct Choice {
+    pub operation: Operation,
+    pub permission: Permission,
+    pub reply_type: u64,
+}
+
 // What a messageType asks for, or that no built request has it.
 pub enum Asked {
-    Request(Operation),
+    Request(Choice),
     NotBuilt,
 }

@@ -1,20 +1,21 @@
 // A connection, as the box keeps it from one message to the next.
 ghost use mathlib.Core.Path.{_≡_};
+ghost use Rattle.base_integers.specs.Signed.{wordOf};
 ghost use Rattle.protocol.specs.State.{connected, withSequence, withClosed};
 ghost use Rattle.protocol_connection.specs.ConnectionOf.{connectionOf};
 
-// Its number, a 64-bit word, whether it is protected or closed, and the last accepted sequence, where one was seen.
+// Its number, whether it is protected or closed, and the last accepted sequence, where one was seen.
 pub struct Connection {
-    pub number: u64,
+    pub number: i64,
     pub protected: bool,
     pub closed: bool,
     pub seen: bool,
-    pub last: u64,
+    pub last: i64,
 }
 
 // A new connection, on which no sequence was seen yet.
-pub fn connect(number: u64, protected: bool) -> Connection
-    ensures { λ r. ⌜ connectionOf r ≡ connected number protected ⌝ }
+pub fn connect(number: i64, protected: bool) -> Connection
+    ensures { λ r. ⌜ connectionOf r ≡ connected (wordOf number) protected ⌝ }
 {
     Connection {
         number,
@@ -26,8 +27,8 @@ pub fn connect(number: u64, protected: bool) -> Connection
 }
 
 // The connection with a sequence accepted.
-pub fn accept(c: Connection, sequence: u64) -> Connection
-    ensures { λ r. ⌜ connectionOf r ≡ withSequence (connectionOf c) sequence ⌝ }
+pub fn accept(c: Connection, sequence: i64) -> Connection
+    ensures { λ r. ⌜ connectionOf r ≡ withSequence (connectionOf c) (wordOf sequence) ⌝ }
 {
     Connection {
         number: c.number,

@@ -3,12 +3,14 @@ use Prim.Native.Nat.{ℕ, _^_, _<_}
 use mathlib.Core.Path.{_≡_}
 use mathlib.Core.Bool.{true}
 use mathlib.Core.List.{List}
-use mathlib.Core.Option.{some}
+use mathlib.Core.Option.{Option, none, some}
 use Rattle.fields_schema.specs.FieldNumbers.{Command-body}
 use Rattle.fields_schema.specs.Tree.{Tree, subAt}
 use Rattle.access_record.specs.Table as access
 use Rattle.protocol.specs.declared.Operation.{Operation}
-use Rattle.protocol.specs.declared.Asked.the-variants.{Request}
+use Rattle.protocol.specs.declared.Choice.{Choice}
+use Rattle.protocol.specs.declared.Asked.{Asked}
+use Rattle.protocol.specs.declared.Asked.the-variants.{Request, NotBuilt}
 use Rattle.protocol.specs.State.{State}
 use Rattle.protocol.specs.Command.{KeyValue, commandOf}
 use Rattle.protocol.specs.Operation.{askedBy}
@@ -21,9 +23,14 @@ use Rattle.protocol.specs.Box.{box, answers, aclOf, typeOf}
 use Rattle.protocol.specs.Says.{Says}
 use Rattle.protocol.specs.PartsRead.{bodyRead, codeRead}
 
+-- the operation that is asked for
+abbrev pub operationIn : Asked → Option Operation
+operationIn (Request x) = some (x .operation)
+operationIn NotBuilt = none
+
 -- the command t asks for the operation
 abbrev pub Asks : Tree → Operation → Type 0
-Asks t o = askedBy (typeOf (commandOf t .header)) ≡ Request o
+Asks t o = operationIn (askedBy (typeOf (commandOf t .header))) ≡ some o
 
 -- its keyValue
 abbrev pub keyValueSent : Tree → KeyValue
@@ -48,11 +55,13 @@ pub record Answered (s : State) (t : Tree) (v r : List ℕ) (s' : State) : Type 
 pub record Admitted (s : State) (i : ℕ) (t : Tree) (v : List ℕ) (o : Operation) : Type 0 where
   pub sequence : ℕ
   pub passes : Passes s (commandOf t) sequence
-  pub asks : Asks t o
+  pub choice : Choice
+  pub chosen : askedBy (typeOf (commandOf t .header)) ≡ Request choice
+  pub asks : choice .operation ≡ o
   pub well-formed : fault o (commandOf t .body) v ≡ 0
   pub acl : access.Acl
   pub known : aclOf s i ≡ some acl
-  pub may : permitted acl (s .connection .protected) o (commandOf t .body) ≡ true
+  pub may : permitted acl (s .connection .protected) (choice .permission) (commandOf t .body) ≡ true
 
 -- a client that reads the bytes r finds this code, this body and this value part
 pub record Replies (r : List ℕ) (code : ℕ) (body : ReplyBody) (value : List ℕ) : Type 0 where

@@ -10,13 +10,15 @@ use Rattle.fields_schema.specs.declared.Kind.the-variants.{Message, ReplyComman
 use Rattle.fields_encoding.specs.BasicLaws.{never}
 use Rattle.store_layout.specs.CheckLaws.{store-decides}
 use Rattle.protocol.specs.declared.Operation.{Operation}
+use Rattle.protocol.specs.declared.Choice.{Choice}
+use Rattle.protocol.specs.declared.Asked.{Asked}
 use Rattle.protocol.specs.declared.Asked.the-variants.{Request}
 use Rattle.protocol.specs.StatusCode.{SUCCESS, NOT_FOUND}
 use Rattle.protocol.specs.State.{State}
 use Rattle.protocol.specs.Command.{commandOf}
 use Rattle.protocol.specs.Operation.{askedBy, replyType}
 use Rattle.protocol.specs.Frame.{whole}
-use Rattle.protocol.specs.Judge.{ReplyBody, Result, judge}
+use Rattle.protocol.specs.Judge.{ReplyBody, Result, fault, judge}
 use Rattle.protocol.specs.Reply.{signedReply, commandTree, replyTree}
 use Rattle.protocol.specs.Answer.{answered, taking, respond}
 use Rattle.protocol.specs.Box.{box, aclOf, sequenceOf, typeOf, judged, decide, messageIn, replyTo}
@@ -27,7 +29,7 @@ use Rattle.protocol.specs.PartsRead.{bodyRead, codeRead}
 use Rattle.protocol.specs.PartsBackLaws.{reply-gives}
 use Rattle.protocol.specs.ReadBackLaws.{reply-says}
 use Rattle.protocol.specs.FirstStepsLaws.{steps-passed}
-use Rattle.protocol_guarantees.specs.Answered.{Asks, Answered, Admitted, Replies}
+use Rattle.protocol_guarantees.specs.Answered.{operationIn, Asks, Answered, Admitted, Replies}
 use Rattle.protocol_guarantees.specs.Cases.{Judged, before, after, obeyed, Came}
 use Rattle.protocol_guarantees.specs.CasesLaws.{judge-cases, answered-whole}
 
@@ -94,8 +96,8 @@ pub result : {s : State} {t : Tree} {v r : List ℕ} {s' : State} (a : Answered 
     → judge s (came a .acl) (commandOf t) v .code ≡ code
 result a h = one-reply (came a .replies) h .0
 
-pub one-operation : {o p : Operation} → Request o ≡ Request p → o ≡ p
-one-operation e = cc
+pub one-operation : {a : Asked} {x : Choice} {o : Operation} → a ≡ Request x → operationIn a ≡ some o → x .operation ≡ o
+one-operation {a} {x} {o} e asks = let z : some (x .operation) ≡ some o = sym (ap operationIn e) ∙ asks in cc
 
 -- SUCCESS ONLY WHERE PERMITTED: a request that is answered SUCCESS, or NOT_FOUND, passed steps 4 to 9
 pub success-admitted : {s : State} {t : Tree} {v r : List ℕ} {s' : State} (a : Answered s t v r s') (o : Operation) → Asks t o
@@ -114,6 +116,16 @@ success-admitted {s} {t} {v} a o asks {code} h y =
     go : (x : Result) → Judged s (came a .acl) (commandOf t) v x → (x .code ≡ SUCCESS) ⊎ (x .code ≡ NOT_FOUND) → Admitted s (a .identity) t v o
     go x (before n k) z = never-both n k z
     go x (after w n k) z = never-both n k z
-    go x (obeyed {q = q} {o = p} w e f m) z =
-        subst (λ (o : Operation). Admitted s (a .identity) t v o) (one-operation (sym e ∙ asks))
-        (record { sequence = q; passes = w; asks = e; well-formed = f; acl = came a .acl; known = came a .known; may = m })
+    go y (obeyed {q = q} {x = x} w e f m) z =
+        let i = one-operation e asks in
+        record {
+          sequence = q;
+          passes = w;
+          choice = x;
+          chosen = e;
+          asks = i;
+          well-formed = ap (λ p. fault p (commandOf t .body) v) (sym i) ∙ f;
+          acl = came a .acl;
+          known = came a .known;
+          may = m;
+        }

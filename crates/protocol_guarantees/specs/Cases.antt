@@ -9,12 +9,12 @@ use Rattle.base_definitions.specs.Options.{orElse}
 use Rattle.access_record.specs.Table as access
 use Rattle.access_record.specs.Table.{tableGood}
 use Rattle.access_record.specs.Record.{withClusterVersion}
-use Rattle.store_block.specs.Entry.{Fit}
 use Rattle.store_layout.specs.Store.{Good}
 use Rattle.store_layout.specs.Entries.{putAnswer, putStore, deleteStore}
 use Rattle.store_layout.specs.declared.PutAnswer.the-variants.{Stored}
 use Rattle.protocol.specs.declared.Operation.{Operation}
 use Rattle.protocol.specs.declared.Operation.the-variants.{Noop, Get, GetVersion, GetNext, GetPrevious, GetKeyRange, Put, Delete, FlushAllData, Setup, GetLog, Security}
+use Rattle.protocol.specs.declared.Choice.{Choice}
 use Rattle.protocol.specs.declared.Asked.the-variants.{Request}
 use Rattle.protocol.specs.StatusCode.{SUCCESS, NOT_FOUND}
 use Rattle.protocol.specs.State.{State, table, withDevice, accepted, closing}
@@ -48,7 +48,7 @@ pub data Effect (s : State) (b : Body) (v : List ℕ) : Operation → Result →
   refuses : {o : Operation} {code : ℕ} → (code ≡ SUCCESS → ⊥) → Effect s b v o (fails s code)
   shows : {o : Operation} {body : ReplyBody} {value : List ℕ} → writes o ≡ false → Effect s b v o (succeeds s body value)
   puts : versionRight (keyValueIn b) (entryOf s (keyValueIn b .key)) ≡ true
-      → (Fit (newEntry (keyValueIn b) v) → putAnswer (s .store) (newEntry (keyValueIn b) v) ≡ Stored)
+      → putAnswer (s .store) (newEntry (keyValueIn b) v) ≡ Stored
       → Effect s b v Put (changed s (putStore (s .store) (newEntry (keyValueIn b) v)))
   misses : entryOf s (keyValueIn b .key) ≡ none → Effect s b v Delete (changed s (s .store))
   deletes : Effect s b v Delete (changed s (deleteStore (s .store) (keyValueIn b .key)))
@@ -59,8 +59,8 @@ pub data Effect (s : State) (b : Body) (v : List ℕ) : Operation → Result →
 pub data Judged (s : State) (a : access.Acl) (c : Command) (v : List ℕ) : Result → Type 0 where
   before : {code : ℕ} → (code ≡ SUCCESS → ⊥) → (code ≡ NOT_FOUND → ⊥) → Judged s a c v (fails s code)
   after : {q code : ℕ} → Passes s c q → (code ≡ SUCCESS → ⊥) → (code ≡ NOT_FOUND → ⊥) → Judged s a c v (fails (accepted s q) code)
-  obeyed : {q : ℕ} {o : Operation} → Passes s c q → askedBy (typeOf (c .header)) ≡ Request o → fault o (c .body) v ≡ 0
-      → permitted a (s .connection .protected) o (c .body) ≡ true → Judged s a c v (step10 (accepted s q) o (c .body) v)
+  obeyed : {q : ℕ} {x : Choice} → Passes s c q → askedBy (typeOf (c .header)) ≡ Request x → fault (x .operation) (c .body) v ≡ 0
+      → permitted a (s .connection .protected) (x .permission) (c .body) ≡ true → Judged s a c v (step10 (accepted s q) (x .operation) (c .body) v)
 
 -- what an answered call on the input xs leaves: the connection closed, all as it was, or what steps 4 to 10 leave
 pub data Left (s : State) (xs : List ℕ) : State → Type 0 where

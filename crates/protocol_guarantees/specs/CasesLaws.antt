@@ -16,12 +16,13 @@ use Rattle.access_record.specs.Table.{tableGood}
 use Rattle.access_record.specs.TableLaws.{both-fst, both-snd}
 use Rattle.store_block.specs.Entry.{Entry}
 use Rattle.store_layout.specs.Store.{storeGood}
-use Rattle.store_layout.specs.Entries.{hasRoom, putStore, deleteStore, nextIn, previousIn}
-use Rattle.store_layout.specs.KeptLaws.{fit-answer}
-use Rattle.store_layout.specs.declared.PutAnswer.the-variants.{Stored, Full}
+use Rattle.store_layout.specs.Entries.{putAnswer, deleteStore, nextIn, previousIn}
+use Rattle.store_layout.specs.declared.PutAnswer.{PutAnswer}
+use Rattle.store_layout.specs.declared.PutAnswer.the-variants.{Stored, Full, Unfit}
 use Rattle.log_readings.specs.Lent.{readingsGood}
 use Rattle.protocol.specs.declared.Operation.{Operation}
 use Rattle.protocol.specs.declared.Operation.the-variants.{Noop, Get, GetVersion, GetNext, GetPrevious, GetKeyRange, Put, Delete, FlushAllData, Setup, GetLog, Security}
+use Rattle.protocol.specs.declared.Choice.{Choice}
 use Rattle.protocol.specs.declared.Asked.{Asked}
 use Rattle.protocol.specs.declared.Asked.the-variants.{Request, NotBuilt}
 use Rattle.protocol.specs.StatusCode.{SUCCESS, NOT_FOUND}
@@ -31,7 +32,7 @@ use Rattle.protocol.specs.Operation.{askedBy}
 use Rattle.protocol.specs.Frame.{Framing, more, closes, whole, frameOf}
 use Rattle.protocol.specs.Reading as reads
 use Rattle.protocol.specs.Reading.{Reading, undecodable, read}
-use Rattle.protocol.specs.Judge.{Result, fails, bothThere, step4, step5, aboveLast, step6, step7, fault, step8, keyValueIn, permitted, step9, entryThere, entryOf, shown, versionShown, versionRight, newEntry, changed, put, deleteBy, setUp, step10, judge}
+use Rattle.protocol.specs.Judge.{Result, fails, bothThere, step4, step5, aboveLast, step6, step7, fault, step8, keyValueIn, permitted, step9, entryThere, entryOf, shown, versionShown, versionRight, newEntry, changed, putBy, put, deleteBy, setUp, step10, judge}
 use Rattle.protocol.specs.Passes.{Passes}
 use Rattle.protocol.specs.FaultCode.{FaultCode, nothing, no-algorithm, invalid}
 use Rattle.protocol.specs.FaultLaws.{fault-code}
@@ -55,12 +56,13 @@ by-version (some e) = shows refl
 
 -- the one place that looks into `put`
 put-effect : (s : State) (b : Body) (v : List ℕ) → Effect s b v Put (put s (keyValueIn b) v)
-put-effect s b v = go (versionRight (keyValueIn b) (entryOf s (keyValueIn b .key))) refl (hasRoom (s .store) (newEntry (keyValueIn b) v)) refl
+put-effect s b v = go (versionRight (keyValueIn b) (entryOf s (keyValueIn b .key))) refl (putAnswer (s .store) (newEntry (keyValueIn b) v)) refl
   where
-    go : (x : Bool) → versionRight (keyValueIn b) (entryOf s (keyValueIn b .key)) ≡ x → (y : Bool) → hasRoom (s .store) (newEntry (keyValueIn b) v) ≡ y
-        → Effect s b v Put (cond x (cond y (changed s (putStore (s .store) (newEntry (keyValueIn b) v))) (fails s 14)) (fails s 8))
-    go true e true h = puts e (λ f. fit-answer (s .store) (newEntry (keyValueIn b) v) f ∙ ap (λ (t : Bool). cond t Stored Full) h)
-    go true e false h = failing 14 (λ z. omega arith)
+    go : (x : Bool) → versionRight (keyValueIn b) (entryOf s (keyValueIn b .key)) ≡ x → (y : PutAnswer) → putAnswer (s .store) (newEntry (keyValueIn b) v) ≡ y
+        → Effect s b v Put (cond x (putBy s (newEntry (keyValueIn b) v) y) (fails s 8))
+    go true e Stored h = puts e h
+    go true e Full h = failing 14 (λ z. omega arith)
+    go true e Unfit h = failing 16 (λ z. omega arith)
     go false e y h = failing 8 (λ z. omega arith)
 
 delete-effect : (s : State) (b : Body) (v : List ℕ) → Effect s b v Delete (deleteBy s (keyValueIn b) (entryOf s (keyValueIn b .key)))
@@ -120,13 +122,13 @@ module _ (s : State) (a : access.Acl) (c : Command) (v : List ℕ) where
 
   abbrev onwards : ℕ → Asked → Result
   onwards q o =
-      step7 (accepted s q) o (λ o.
-      step8 (accepted s q) o (c .body) v (step9 (accepted s q) a o (c .body) (step10 (accepted s q) o (c .body) v)))
+      step7 (accepted s q) o (λ x.
+      step8 (accepted s q) (x .operation) (c .body) v (step9 (accepted s q) a (x .permission) (c .body) (step10 (accepted s q) (x .operation) (c .body) v)))
 
   asked-by : (q : ℕ) (o : Asked) → Passes s c q → askedBy (typeOf (c .header)) ≡ o → Judged s a c v (onwards q o)
-  asked-by q (Request o) g e =
-      faulty q g (step9 (accepted s q) a o (c .body) (step10 (accepted s q) o (c .body) v)) (fault-code o (c .body) v) (λ f.
-      chosen (permitted a (s .connection .protected) o (c .body)) (step10 (accepted s q) o (c .body) v) (fails (accepted s q) 3) (λ p. obeyed g e f p) (late q g 3 (λ e. omega arith) (λ e. omega arith)))
+  asked-by q (Request x) g e =
+      faulty q g (step9 (accepted s q) a (x .permission) (c .body) (step10 (accepted s q) (x .operation) (c .body) v)) (fault-code (x .operation) (c .body) v) (λ f.
+      chosen (permitted a (s .connection .protected) (x .permission) (c .body)) (step10 (accepted s q) (x .operation) (c .body) v) (fails (accepted s q) 3) (λ p. obeyed g e f p) (late q g 3 (λ e. omega arith) (λ e. omega arith)))
   asked-by q NotBuilt g e = late q g 16 (λ e. omega arith) (λ e. omega arith)
 
   both-there : (h : Header) (i q : Option ℕ) → c .header ≡ some h → h .connectionID ≡ i → h .sequence ≡ q
@@ -157,15 +159,16 @@ module _ (s : State) (a : access.Acl) (c : Command) (v : List ℕ) where
       go (some h) e = both-there h (h .connectionID) (h .sequence) e refl refl
 
 -- and where steps 4 to 9 pass, the result is that of step 10
-pub judge-obeys : (s : State) (a : access.Acl) (c : Command) (v : List ℕ) (q : ℕ) (o : Operation) → Passes s c q → askedBy (typeOf (c .header)) ≡ Request o
-    → fault o (c .body) v ≡ 0 → permitted a (s .connection .protected) o (c .body) ≡ true → judge s a c v ≡ step10 (accepted s q) o (c .body) v
+pub judge-obeys : (s : State) (a : access.Acl) (c : Command) (v : List ℕ) (q : ℕ) (x : Choice) → Passes s c q → askedBy (typeOf (c .header)) ≡ Request x
+    → fault (x .operation) (c .body) v ≡ 0 → permitted a (s .connection .protected) (x .permission) (c .body) ≡ true
+    → judge s a c v ≡ step10 (accepted s q) (x .operation) (c .body) v
 unfolding judge
-judge-obeys s a c v q o p e f m =
+judge-obeys s a c v q x p e f m =
     let h = p .header in
     let n = s .connection .number in
-    let next = step10 (accepted s q) o (c .body) v in
-    let permit = step9 (accepted s q) a o (c .body) next in
-    let asked : askedBy (h .messageType) ≡ Request o = sym (ap (λ x. askedBy (typeOf x)) (p .there)) ∙ e in
+    let next = step10 (accepted s q) (x .operation) (c .body) v in
+    let permit = step9 (accepted s q) a (x .permission) (c .body) next in
+    let asked : askedBy (h .messageType) ≡ Request x = sym (ap (λ o. askedBy (typeOf o)) (p .there)) ∙ e in
     ap (λ x. step4 s x (λ h connection q. step5 s h (step6 s connection q (onwards s a c v q (askedBy (h .messageType)))))) (p .there)
     ∙ ap (λ i. bothThere s h i (h .sequence) (λ h connection q. step5 s h (step6 s connection q (onwards s a c v q (askedBy (h .messageType)))))) (p .connection)
     ∙ ap (λ z. bothThere s h (some n) z (λ h connection q. step5 s h (step6 s connection q (onwards s a c v q (askedBy (h .messageType)))))) (p .sequence)

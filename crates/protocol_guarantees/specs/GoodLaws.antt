@@ -108,9 +108,9 @@ judged-good : (s : State) (a : access.Acl) (c : Command) (v : List ℕ) (x : Res
     → Good (x .state .store) × (tableGood (table (x .state)) ≡ true)
 judged-good s a c v x g h (before n k) = (g, h)
 judged-good s a c v x g h (after w n k) = (g, h)
-judged-good s a c v x g h (obeyed {q = q} {o = o} w e f p) =
-    let t = step10-effect (accepted s q) o (c .body) v in
-    (effect-store (accepted s q) (c .body) v o _ g t, effect-table (accepted s q) (c .body) v o _ h f t)
+judged-good s a c v y g h (obeyed {q = q} {x = x} w e f p) =
+    let t = step10-effect (accepted s q) (x .operation) (c .body) v in
+    (effect-store (accepted s q) (c .body) v (x .operation) _ g t, effect-table (accepted s q) (c .body) v (x .operation) _ h f t)
 
 left-good : (s : State) (xs : List ℕ) (s' : State) → Good (s .store) → tableGood (table s) ≡ true → Left s xs s' → Good (s' .store) × (tableGood (table s') ≡ true)
 left-good s xs s' g h closed = (g, h)

@@ -1,15 +1,18 @@
 -- A message is never obeyed twice, and a closed connection stays closed.
-use Prim.Native.Nat.{ℕ, _+_, _%_, _^_, _≤_, _<_}
+use Prim.Native.Nat.{ℕ, _+_, _^_, _<_}
 use native.Mathlib.Omega.{arith}
 use mathlib.Core.Path.{_≡_, refl, sym, ap, _∙_, subst}
 use mathlib.Core.Logic.{_⊎_, inl, inr}
 use mathlib.Core.Bool.{Bool, true, false, cond}
 use mathlib.Core.List.{List, []}
 use mathlib.Core.Option.{Option, none, some}
+use lib.IntN.{ℤ, pos, negsuc}
+use lib.Signed.{ltZ}
 use lib.ListN.{length}
 use borrow.Author.Tests.{ltb-true, ltb-false, le-ltb}
 use Rattle.fields_schema.specs.Tree.{Tree}
 use Rattle.fields_encoding.specs.BasicLaws.{never}
+use Rattle.base_integers.specs.Signed.{signedOf}
 use Rattle.base_definitions.specs.Lists.{sameBytes}
 use Rattle.signature_hmac.specs.Hmac.{hmac}
 use Rattle.protocol.specs.declared.Operation.{Operation}
@@ -61,8 +64,10 @@ left-connection s xs s' (cases.judged m v rest i key t a d e p) = go (judge s a 
     go : (x : Result) → Judged s a (commandOf t) v x → Next (s .connection) (x .state .connection)
     go x (before n k) = same
     go x (after {q = q} w n k) = heard q (w .later)
-    go x (obeyed {q = q} {o = o} w e f m) =
-        subst (Next (s .connection)) (sym (effect-connection (accepted s q) (commandOf t .body) v o _ (step10-effect (accepted s q) o (commandOf t .body) v))) (heard q (w .later))
+    go y (obeyed {q = q} {x = x} w e f m) =
+        subst (Next (s .connection))
+        (sym (effect-connection (accepted s q) (commandOf t .body) v (x .operation) _ (step10-effect (accepted s q) (x .operation) (commandOf t .body) v)))
+        (heard q (w .later))
 
 next : (s : State) (room : ℕ) (xs r : List ℕ) (s' : State) (n : ℕ) → answers s room xs ≡ answered r s' n → Next (s .connection) (s' .connection)
 next s room xs r s' n e = left-connection s xs s' (answered-left s xs room r s' n e .2)
@@ -83,15 +88,17 @@ later-number (Later.elsewhere s'' l e) = ap (λ (c : state.Connection). c .numbe
 abbrev Past : ℕ → state.Connection → Type 0
 Past q c = aboveLast q (c .last) ≡ false
 
+lt-past : (x l z : ℤ) → ltZ l x ≡ false → ltZ l z ≡ true → ltZ z x ≡ false
+lt-past (pos x) (pos l) (pos z) e f = le-ltb z x (omega (arith, ltb-false l x e, ltb-true l z f))
+lt-past (pos x) (pos l) (negsuc z) e f = never (cc)
+lt-past (pos x) (negsuc l) z e f = never (cc)
+lt-past (negsuc x) l (pos z) e f = refl
+lt-past (negsuc x) (pos l) (negsuc z) e f = never (cc)
+lt-past (negsuc x) (negsuc l) (negsuc z) e f = le-ltb x z (omega (arith, ltb-false x l e, ltb-true z l f))
+
 above-past : (q l p : ℕ) → above q l ≡ false → above p l ≡ true → above q p ≡ false
 unfolding above
-above-past q l p e f =
-    let x = (q + 2 ^ 63) % 2 ^ 64 in
-    let y = (l + 2 ^ 63) % 2 ^ 64 in
-    let z = (p + 2 ^ 63) % 2 ^ 64 in
-    let g : x ≤ y = ltb-false y x e in
-    let h : y < z = ltb-true y z f in
-    le-ltb z x (omega arith)
+above-past q l p e f = lt-past (signedOf q) (signedOf l) (signedOf p) e f
 
 past-heard : (q p : ℕ) (o : Option ℕ) → aboveLast q o ≡ false → aboveLast p o ≡ true → aboveLast q (some p) ≡ false
 past-heard q p none e f = never (cc)

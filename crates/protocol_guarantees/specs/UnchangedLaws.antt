@@ -30,7 +30,7 @@ use Rattle.protocol.specs.Reading.{read}
 use Rattle.protocol.specs.Judge.{ReplyBody, Result, judge}
 use Rattle.protocol.specs.Answer.{answered, reading}
 use Rattle.protocol.specs.Box.{box, answers}
-use Rattle.protocol_guarantees.specs.Answered.{Asks, Answered, Replies}
+use Rattle.protocol_guarantees.specs.Answered.{operationIn, Asks, Answered, Replies}
 use Rattle.protocol_guarantees.specs.Later.{Without, onlyReads, OnlySequence, Changes, Spared}
 use Rattle.protocol_guarantees.specs.Cases as cases
 use Rattle.protocol_guarantees.specs.Cases.{Effect, refuses, shows, puts, misses, deletes, sets, secures, Judged, before, after, obeyed, Left, closed, stayed}
@@ -49,7 +49,8 @@ module _ (P : State → Type 0) (s : State) (xs : List ℕ) (shut : P (closing s
       go : (x : Result) → Judged s a (commandOf t) v x → P (x .state)
       go x (before n k) = same
       go x (after {q = q} w n k) = counted q
-      go x (obeyed {q = q} {o = o} w asks f p) = obeys m v rest i key t d e q o _ asks (step10-effect (accepted s q) o (commandOf t .body) v)
+      go y (obeyed {q = q} {x = x} w asked f p) =
+          obeys m v rest i key t d e q (x .operation) _ (ap operationIn asked) (step10-effect (accepted s q) (x .operation) (commandOf t .body) v)
 
 -- ---- the entry under a key
 
@@ -173,7 +174,8 @@ failure-stays {s} {t} {v} a h n =
     go : (x : Result) → Judged s (came a .acl) (commandOf t) v x → (x .code ≡ SUCCESS → ⊥) → OnlySequence s (x .state)
     go x (before c k) z = inl refl
     go x (after {q = q} w c k) z = inr (q, refl)
-    go x (obeyed {q = q} {o = o} w e f p) z = inr (q, effect-fails (accepted s q) (commandOf t .body) v o _ z (step10-effect (accepted s q) o (commandOf t .body) v))
+    go y (obeyed {q = q} {x = x} w e f p) z =
+        inr (q, effect-fails (accepted s q) (commandOf t .body) v (x .operation) _ z (step10-effect (accepted s q) (x .operation) (commandOf t .body) v))
 
 -- NOOP, FLUSHALLDATA AND A READ change nothing but the sequence, whatever comes of them
 pub reading-stays : {s : State} {t : Tree} {v r : List ℕ} {s' : State} → Answered s t v r s' → (o : Operation) → Asks t o → onlyReads o ≡ true → OnlySequence s s'
@@ -183,5 +185,5 @@ reading-stays {s} {t} {v} a o asks n =
     go : (x : Result) → Judged s (came a .acl) (commandOf t) v x → OnlySequence s (x .state)
     go x (before c k) = inl refl
     go x (after {q = q} w c k) = inr (q, refl)
-    go x (obeyed {q = q} {o = p} w e f m) =
-        inr (q, effect-reads (accepted s q) (commandOf t .body) v p _ (ap onlyReads (one-operation (sym e ∙ asks)) ∙ n) (step10-effect (accepted s q) p (commandOf t .body) v))
+    go y (obeyed {q = q} {x = x} w e f m) =
+        inr (q, effect-reads (accepted s q) (commandOf t .body) v (x .operation) _ (ap onlyReads (one-operation e asks) ∙ n) (step10-effect (accepted s q) (x .operation) (commandOf t .body) v))

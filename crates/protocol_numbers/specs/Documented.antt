@@ -20,9 +20,10 @@ use Rattle.fields_schema.specs.Tree.{among, isSome, isInt32, mapO, Tree, done, 
 use Rattle.fields_encoding.specs.Encode.{encode}
 use Rattle.store_block.specs.Entry.{Entry, entry}
 use Rattle.store_block.specs.Block.{decode, fitTest, blockTest, sumTest}
-use Rattle.store_layout.specs.declared.Place.the-variants.{Nothing}
+use Rattle.store_layout.specs.declared.EntryPlace.the-variants.{Nothing}
 use Rattle.store_layout.specs.Store.{sizeGood, storeGood}
-use Rattle.store_layout.specs.Entries.{hasRoom, nextIn, previousIn}
+use Rattle.store_layout.specs.Entries.{putAnswer, nextIn, previousIn}
+use Rattle.store_layout.specs.declared.PutAnswer.the-variants.{Stored, Full}
 use Rattle.access_record.specs.Table as access
 use Rattle.access_record.specs.Table.{tableGood, hostTable}
 use Rattle.log_binary32.specs.Celsius.{celsiusOf}
@@ -32,6 +33,8 @@ use Rattle.store_rescue.specs.Rescue as rescue
 use Rattle.store_rescue.specs.Rescue.{hasKey, reportByte, rescueOf}
 use Rattle.protocol.specs.declared.Operation.{Operation}
 use Rattle.protocol.specs.declared.Operation.the-variants.{Noop, Get, GetVersion, GetNext, GetPrevious, GetKeyRange, Put, Delete, FlushAllData, Setup, GetLog, Security}
+use Rattle.protocol.specs.declared.Permission.{Permission}
+use Rattle.protocol.specs.declared.Choice.{Choice}
 use Rattle.protocol.specs.declared.Asked.{Asked}
 use Rattle.protocol.specs.declared.Asked.the-variants.{Request, NotBuilt}
 use Rattle.protocol.specs.State.{State, table, entries, accepted}
@@ -237,15 +240,15 @@ pub record JudgedCodes (s : State) (a : access.Acl) (c : Command) (v : List ℕ)
   -- step 7: "messageType is a request built here: else 16."
   pub not-built : (q : ℕ) (p : Passes s c q) → askedBy (p .header .messageType) ≡ NotBuilt → judge s a c v ≡ fails (accepted s q) 16
   -- step 8: a code of the tables below
-  pub ill-formed : (q : ℕ) (p : Passes s c q) (o : Operation) → askedBy (p .header .messageType) ≡ Request o
-      → eqb (fault o (c .body) v) 0 ≡ false → judge s a c v ≡ fails (accepted s q) (fault o (c .body) v)
+  pub ill-formed : (q : ℕ) (p : Passes s c q) (x : Choice) → askedBy (p .header .messageType) ≡ Request x
+      → eqb (fault (x .operation) (c .body) v) 0 ≡ false → judge s a c v ≡ fails (accepted s q) (fault (x .operation) (c .body) v)
   -- step 9: "Permission: else NOT_AUTHORIZED (3)."
-  pub not-permitted : (q : ℕ) (p : Passes s c q) (o : Operation) → askedBy (p .header .messageType) ≡ Request o
-      → eqb (fault o (c .body) v) 0 ≡ true → permitted a (s .connection .protected) o (c .body) ≡ false → judge s a c v ≡ fails (accepted s q) 3
+  pub not-permitted : (q : ℕ) (p : Passes s c q) (x : Choice) → askedBy (p .header .messageType) ≡ Request x
+      → eqb (fault (x .operation) (c .body) v) 0 ≡ true → permitted a (s .connection .protected) (x .permission) (c .body) ≡ false → judge s a c v ≡ fails (accepted s q) 3
   -- step 10: "The operation."
-  pub performed : (q : ℕ) (p : Passes s c q) (o : Operation) → askedBy (p .header .messageType) ≡ Request o
-      → eqb (fault o (c .body) v) 0 ≡ true → permitted a (s .connection .protected) o (c .body) ≡ true
-      → judge s a c v ≡ step10 (accepted s q) o (c .body) v
+  pub performed : (q : ℕ) (p : Passes s c q) (x : Choice) → askedBy (p .header .messageType) ≡ Request x
+      → eqb (fault (x .operation) (c .body) v) 0 ≡ true → permitted a (s .connection .protected) (x .permission) (c .body) ≡ true
+      → judge s a c v ≡ step10 (accepted s q) (x .operation) (c .body) v
 
 -- step 8, lengths and counts: a body with a keyValue, a range, a getLog, a security part
 abbrev pub entering : List ℕ → List ℕ → List ℕ → List ℕ → Body
@@ -371,13 +374,13 @@ abbrev pub holding : List ℕ → access.Acl
 holding ps = record { identity = 1; key = []; scopes = access.scopeOf 0 [] ps false ∷ [] }
 
 -- the permission alone is enough, and all the others are not
-abbrev pub Needs : Option ℕ → Operation → Type 0
-Needs none o = (protected : Bool) (b : Body) → permitted (holding []) protected o b ≡ true
-Needs (some p) o = (protected : Bool) (b : Body) → (permitted (holding (p ∷ [])) protected o b ≡ true) × (permitted (holding (without p permissions)) protected o b ≡ false)
+abbrev pub Needs : Option ℕ → Permission → Type 0
+Needs none x = (protected : Bool) (b : Body) → permitted (holding []) protected x b ≡ true
+Needs (some p) x = (protected : Bool) (b : Body) → (permitted (holding (p ∷ [])) protected x b ≡ true) × (permitted (holding (without p permissions)) protected x b ≡ false)
 
 -- what a number asks for is what its row says, "everything else refused"; "Type is the request's minus one"
 pub data Chooses : Asked → Option OperationRow → Type 0 where
-  by-row : (r : OperationRow) → replyType (Request (r .operation)) ≡ r .response → Needs (r .permission) (r .operation) → Chooses (Request (r .operation)) (some r)
+  by-row : (x : Choice) (r : OperationRow) → x .operation ≡ r .operation → replyType (Request x) ≡ r .response → Needs (r .permission) (x .permission) → Chooses (Request x) (some r)
   else-none : Chooses NotBuilt none
 
 pub record OperationTable : Type 0 where
@@ -408,9 +411,9 @@ pub record OperationCodes (s : State) (b : Body) (v : List ℕ) : Type 0 where
   pub previous-none : previousIn (keyValueIn b .key) (entries s) ≡ Nothing → step10 s GetPrevious b v ≡ fails s 7
   -- PUT: "else VERSION_MISMATCH (8). A new key that passes this, with no blank block: NO_SPACE (14), and only then."
   pub put-mismatch : versionRight (keyValueIn b) (entryOf s (keyValueIn b .key)) ≡ false → step10 s Put b v ≡ fails s 8
-  pub put-no-space : versionRight (keyValueIn b) (entryOf s (keyValueIn b .key)) ≡ true → hasRoom (s .store) (newEntry (keyValueIn b) v) ≡ false
+  pub put-no-space : versionRight (keyValueIn b) (entryOf s (keyValueIn b .key)) ≡ true → putAnswer (s .store) (newEntry (keyValueIn b) v) ≡ Full
       → step10 s Put b v ≡ fails s 14
-  pub put-stored : versionRight (keyValueIn b) (entryOf s (keyValueIn b .key)) ≡ true → hasRoom (s .store) (newEntry (keyValueIn b) v) ≡ true
+  pub put-stored : versionRight (keyValueIn b) (entryOf s (keyValueIn b .key)) ≡ true → putAnswer (s .store) (newEntry (keyValueIn b) v) ≡ Stored
       → step10 s Put b v .code ≡ 1
   -- DELETE: "missing key is NOT_FOUND (7), or SUCCESS with force; version as for PUT."
   pub delete-missing : entryOf s (keyValueIn b .key) ≡ none → keyValueIn b .force ≡ false → step10 s Delete b v ≡ fails s 7

@@ -22,25 +22,23 @@ use Rattle.fields_schema.specs.Tree.{items, level, openAll, listedIn, listed}
 use Rattle.fields_encoding.specs.Encode.{encode, intIf, rawIf, fixO, each, subO, eachSub}
 use Rattle.store_block.specs.Order.{cmp}
 use Rattle.store_block.specs.Entry.{Entry}
-use Rattle.store_block.specs.Block.{decode, isEqual, fitTest, blockTest, sumTest}
+use Rattle.store_block.specs.Block.{decode, isEqual, fitTest}
 use Rattle.store_layout.specs.Store.{sizeGood, storeGood}
 use Rattle.access_record.specs.Table as access
-use Rattle.access_record.specs.Table.{named, maskOf, maskGood, scopeGood, aclGood, findFrom, aclsGood, tableGood}
+use Rattle.access_record.specs.Table.{named, maskOf, maskGood, offsetGood, scopeGood, aclGood, findFrom, aclsGood, tableGood}
 use Rattle.access_permission.specs.Permission.{fitsAt, fits, holds, grants, permits, permitsAny, permitsRange}
 use Rattle.log_binary32.specs.Binary32.{fieldUnits, digitsIn, patternAt, rounded, lessThirtyTwo, minus32, times5, over9}
 use Rattle.log_binary32.specs.Celsius.{celsiusOf}
 use Rattle.log_readings.specs.Lent.{bitsAt, lentAt, placesFrom, allNamed, readingsGood}
 use Rattle.store_rescue.specs.State.{blankTest, stateOf}
 use Rattle.store_rescue.specs.Rescue.{report, reportByte, rescueOf}
-use Rattle.protocol.specs.declared.Operation.{Operation}
 use Rattle.protocol.specs.declared.Asked.{Asked}
-use Rattle.protocol.specs.declared.Asked.the-variants.{Request, NotBuilt}
 use Rattle.protocol.specs.State.{State, table, accepted}
 use Rattle.protocol.specs.Command.{Body, Command}
-use Rattle.protocol.specs.Operation.{asked, askedBy}
+use Rattle.protocol.specs.Operation.{asked, askedIn, askedBy}
 use Rattle.protocol.specs.Frame.{more, frameOf}
 use Rattle.protocol.specs.Reading.{readMessage, securityOnce, readingBy}
-use Rattle.protocol.specs.Judge.{Result, keyValueGood, rangeGood, typesGood, permissionsGood, aclRead, securityGood, algorithmsGood, broken, fault, permitted, logWith, fails, step7, step8, step9, step10, judge, setUp}
+use Rattle.protocol.specs.Judge.{Result, keyValueGood, rangeGood, typesGood, permissionsGood, aclRead, securityGood, algorithmsGood, broken, logWith, step7, step8, step9, step10, judge, setUp}
 use Rattle.protocol.specs.Box.{box}
 use Rattle.protocol.specs.CallRefusalLaws as refusals
 use Rattle.protocol.specs.Format.{formatRefusal}
@@ -181,7 +179,7 @@ fields = record {
 -- steps 7 to 10
 abbrev onwards : State → access.Acl → Command → List ℕ → ℕ → Asked → Result
 onwards s a c v q o =
-    step7 (accepted s q) o (λ o. step8 (accepted s q) o (c .body) v (step9 (accepted s q) a o (c .body) (step10 (accepted s q) o (c .body) v)))
+    step7 (accepted s q) o (λ x. step8 (accepted s q) (x .operation) (c .body) v (step9 (accepted s q) a (x .permission) (c .body) (step10 (accepted s q) (x .operation) (c .body) v)))
 
 passed : (s : State) (a : access.Acl) (c : Command) (v : List ℕ) (q : ℕ) (p : Passes s c q) → judge s a c v ≡ onwards s a c v q (askedBy (p .header .messageType))
 unfolding judge
@@ -243,7 +241,7 @@ empty [] = refl
 empty (b ∷ x) = sym (lt-leb (length (b ∷ x)) 0 (omega arith))
 
 step8s : Step8
-unfolding keyValueGood rangeGood typesGood permissionsGood aclRead securityGood algorithmsGood all mapL acls scopes named maskOf withBit bit maskGood scopeGood aclGood findFrom aclsGood tableGood
+unfolding keyValueGood rangeGood typesGood permissionsGood aclRead securityGood algorithmsGood all mapL acls scopes named maskOf withBit bit maskGood offsetGood scopeGood aclGood findFrom aclsGood tableGood
 step8s = record {
   key = both-ends _ _ _ (λ t. broken (t && true)) refl refl (λ x. refl);
   newVersion = upper-end _ _ (λ t. broken (t && true)) refl refl (λ x. refl);
@@ -273,21 +271,21 @@ chooses true h k = h
 chooses false h k = k
 
 operations : OperationTable
-unfolding asked rowOf without maskOf withBit bit permits permitsAny permitsRange any grants holds fits fitsAt
+unfolding asked askedIn rowOf without maskOf withBit bit permits permitsAny permitsRange any grants holds fits fitsAt
 operations = record {
   asks = λ n.
-      chooses (eqb n _) (by-row _ refl (λ p b. (refl, refl)))
-      (chooses (eqb n _) (by-row _ refl (λ p b. (refl, refl)))
-      (chooses (eqb n _) (by-row _ refl (λ p b. (refl, refl)))
-      (chooses (eqb n _) (by-row _ refl (λ p b. (refl, refl)))
-      (chooses (eqb n _) (by-row _ refl (λ p b. (refl, refl)))
-      (chooses (eqb n _) (by-row _ refl (λ p b. (refl, refl)))
-      (chooses (eqb n _) (by-row _ refl (λ p b. (refl, refl)))
-      (chooses (eqb n _) (by-row _ refl (λ p b. (refl, refl)))
-      (chooses (eqb n _) (by-row _ refl (λ p b. (refl, refl)))
-      (chooses (eqb n _) (by-row _ refl (λ p b. (refl, refl)))
-      (chooses (eqb n _) (by-row _ refl (λ p b. refl))
-      (chooses (eqb n _) (by-row _ refl (λ p b. refl))
+      chooses (eqb n _) (by-row _ _ refl refl (λ p b. (refl, refl)))
+      (chooses (eqb n _) (by-row _ _ refl refl (λ p b. (refl, refl)))
+      (chooses (eqb n _) (by-row _ _ refl refl (λ p b. (refl, refl)))
+      (chooses (eqb n _) (by-row _ _ refl refl (λ p b. (refl, refl)))
+      (chooses (eqb n _) (by-row _ _ refl refl (λ p b. (refl, refl)))
+      (chooses (eqb n _) (by-row _ _ refl refl (λ p b. (refl, refl)))
+      (chooses (eqb n _) (by-row _ _ refl refl (λ p b. (refl, refl)))
+      (chooses (eqb n _) (by-row _ _ refl refl (λ p b. (refl, refl)))
+      (chooses (eqb n _) (by-row _ _ refl refl (λ p b. (refl, refl)))
+      (chooses (eqb n _) (by-row _ _ refl refl (λ p b. (refl, refl)))
+      (chooses (eqb n _) (by-row _ _ refl refl (λ p b. refl))
+      (chooses (eqb n _) (by-row _ _ refl refl (λ p b. refl))
       else-none)))))))))));
   asks-none = refl;
   replies-none = refl;

@@ -9,6 +9,7 @@ ghost use Rattle.protocol.specs.Reply.{statusTree};
 ghost use Rattle.reply_command.specs.Parts.{bodyBytes};
 ghost use Rattle.reply_command.specs.Repeated.{ackOf, headerTo};
 ghost use Rattle.fields_schema.specs.FieldNumbers.{Command-header};
+use base_integers::word;
 use fields_schema::field_number::body;
 use fields_schema::field_number::command;
 use fields_schema::field_number::header;
@@ -18,10 +19,10 @@ use fields_write_bytes::Maybe;
 
 // What a reply repeats: the identity, the connection's number, the request's sequence if it has one, and the reply's type.
 pub struct ReplyTo {
-    pub identity: u64,
-    pub connection: u64,
+    pub identity: i64,
+    pub connection: i64,
     pub sequenced: bool,
-    pub sequence: u64,
+    pub sequence: i64,
     pub kind: u64,
 }
 
@@ -31,7 +32,7 @@ fn ack(reply_to: ReplyTo) -> Maybe
 {
     let sequenced = reply_to.sequenced;
     if sequenced {
-        return Maybe::Number(reply_to.sequence);
+        return Maybe::Number(word(reply_to.sequence));
     }
     Maybe::Nothing
 }
@@ -52,7 +53,7 @@ pub fn push_header(out: &mut [u8], at: usize, reply_to: ReplyTo) -> usize
 {
     let a = fields_write_field::push_int(out, at, header::MESSAGE_TYPE, reply_to.kind);
     let b = fields_write_optional::push_maybe(out, a, header::ACK_SEQUENCE, ack(reply_to));
-    let c = fields_write_field::push_int(out, b, header::CONNECTION_ID, reply_to.connection);
+    let c = fields_write_field::push_signed(out, b, header::CONNECTION_ID, reply_to.connection);
     fields_write_field::push_head(out, c, command::HEADER, at - c)
 }
 

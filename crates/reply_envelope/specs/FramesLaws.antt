@@ -1,5 +1,5 @@
 -- A signed reply in the runs that a writer makes of it, from its end to its front.
-use Prim.Native.Nat.{ℕ, _-_, _/_, _%_, _^_, _≤_, _<_}
+use Prim.Native.Nat.{ℕ, _-_, _≤_}
 use native.Mathlib.Omega.{arith}
 use mathlib.Core.Path.{_≡_, refl, sym, ap, ap₂, _∙_}
 use mathlib.Core.List.{List, [], _∷_, _++_, append-assoc}
@@ -12,9 +12,9 @@ use Rattle.signature_sha1.specs.Sha1.{Answer}
 use Rattle.signature_hmac.specs.Hmac.{hmac, hmacAnswer}
 use Rattle.fields_write_bytes.specs.Pushed.{Pushed, Starts}
 use Rattle.fields_write_bytes.specs.PushedLaws.{_onto_, again, pushed-sub, pushed-none, pushed-tail, pushed-whole, starts-again}
-use Rattle.fields_write_word.specs.Word.{low32Bytes}
 use Rattle.fields_write_bytes.specs.TreePartsLaws.{raw-last, int-pushed, raw-done}
-use Rattle.protocol.specs.Frame.{be4, frame}
+use Rattle.base_definitions.specs.BigEndian.{be32}
+use Rattle.protocol.specs.Frame.{frame}
 use Rattle.protocol.specs.Reply.{statusTree, signedTree, closingCommand, signedReply, closingReply}
 use Rattle.reply_envelope.specs.Frames.{authBytes, Finished}
 
@@ -38,23 +38,20 @@ signed-parts identity key c =
     append-assoc (intField 4 1) (lenField 5 (encode (int 1 identity (raw 2 (hmac key c) done)))) (lenField 7 c)
     ∙ ap (λ r. intField 4 1 ++ (lenField 5 (encode (int 1 identity (raw 2 (hmac key c) done))) ++ r)) (sym (raw-done 7 c))
 
-pub be-four : (n : ℕ) → n < 2 ^ 32 → low32Bytes n ≡ be4 n
-be-four n h = let e : n / 2 ^ 24 % 256 ≡ n / 16777216 = omega arith in ap (λ b. b ∷ n / 65536 % 256 ∷ n / 256 % 256 ∷ n % 256 ∷ []) e
-
 -- a frame: its prefix in front of a message and a value
-frame-law : {r a end : ℕ} {l m s n b : List ℕ} (v : List ℕ) (k : ℕ) → k ≡ length v → length l ≤ 4096 → Pushed r a (0x46 ∷ (low32Bytes (end - a) ++ low32Bytes k)) s n
+frame-law : {r a end : ℕ} {l m s n b : List ℕ} (v : List ℕ) (k : ℕ) → k ≡ length v → length l ≤ 4096 → Pushed r a (0x46 ∷ (be32 (end - a) ++ be32 k)) s n
     → Pushed a end b m s → Pushed end (length l) v l m → drop r n ≡ frame b v
-unfolding frame
+unfolding frame be32
 frame-law {a = a} {end = end} {b = b} v k h f p w z =
     let wf = w .from in
     let zf = z .from in
-    let e : low32Bytes (end - a) ≡ be4 (length b) = be-four (end - a) (omega arith) ∙ ap be4 (let g : end - a ≡ length b = omega arith in g) in
-    let d : low32Bytes k ≡ be4 (length v) = be-four k (omega arith) ∙ ap be4 h in
+    let e : be32 (end - a) ≡ be32 (length b) = ap be32 (let g : end - a ≡ length b = omega arith in g) in
+    let d : be32 k ≡ be32 (length v) = ap be32 h in
     pushed-whole (again (ap₂ (λ x y. 0x46 ∷ (x ++ y)) e d) p onto (w onto z))
-    ∙ ap (λ t. 0x46 ∷ t) (append-assoc (be4 (length b)) (be4 (length v)) (b ++ v))
+    ∙ ap (λ t. 0x46 ∷ t) (append-assoc (be32 (length b)) (be32 (length v)) (b ++ v))
 
 pub finish-law : {r b a at end : ℕ} {l m1 m2 n : List ℕ} (key : List ℕ) (identity k : ℕ) → k ≡ length l - end → length l ≤ 4096
-    → Pushed r b (0x46 ∷ (low32Bytes (end - b) ++ low32Bytes k)) m2 n → Pushed b a (authBytes identity (hmac key (take (end - at) (drop at l)))) m1 m2
+    → Pushed r b (0x46 ∷ (be32 (end - b) ++ be32 k)) m2 n → Pushed b a (authBytes identity (hmac key (take (end - at) (drop at l)))) m1 m2
     → Pushed a at (head 7 (end - at)) l m1 → Finished r at end key identity l n
 finish-law {r} {b} {a} {at} {end} {l} {m1} {m2} {n} key identity k h f p q w = record { all = go }
   where
@@ -75,17 +72,17 @@ no-value n l e =
     record { from = omega arith; fits = p .fits; long = refl; same = p .same ∙ ap (λ k. take k l ++ ([] ++ drop (length l) l)) (sym e) }
 
 pub closing-law : {r d c b a at : ℕ} {l m1 m2 m3 m4 n : List ℕ} (connection code : ℕ) → at ≡ length l → length l ≤ 4096
-    → Pushed r d (0x46 ∷ (low32Bytes (at - d) ++ low32Bytes 0)) m4 n → Pushed d c (intField 4 3) m3 m4 → Pushed c b (head 7 (at - b)) m2 m3
+    → Pushed r d (0x46 ∷ (be32 (at - d) ++ be32 0)) m4 n → Pushed d c (intField 4 3) m3 m4 → Pushed c b (head 7 (at - b)) m2 m3
     → Pushed b a (lenField 1 (encode (int 3 connection done))) m1 m2 → Pushed a at (encode (statusTree code)) l m1 → drop r n ≡ closingReply connection code
 unfolding closingReply encode
 closing-law {at = at} {l = l} connection code h f p q w x y =
     frame-law [] 0 refl f p (again (ap (λ t. intField 4 3 ++ t) (sym (raw-done 7 (encode (closingCommand connection code))))) (q onto pushed-sub 7 w (x onto y))) (no-value at l h)
 
 -- a whole signed reply
-pub signed-whole : {r at end identity : ℕ} {key m before after v : List ℕ} (t : Tree) (l : List ℕ) → Finished r at end key identity before after
+pub signed-whole : {r at end i identity : ℕ} {key m before after v : List ℕ} (t : Tree) (l : List ℕ) → i ≡ identity → Finished r at end key i before after
     → Pushed at end (encode t) m before → Pushed end (length l) v l m → drop r after ≡ signedReply identity key t v
 unfolding signedReply
-signed-whole t l f p q = f .all _ _ _ _ p q
+signed-whole {key = key} {v = v} t l e f p q = f .all _ _ _ _ p q ∙ ap (λ (n : ℕ). signedReply n key t v) e
 
 -- the copy of the end of a scratch buffer to the start of the lent one
 pub copied : {r : ℕ} {bs before after : List ℕ} (s : List ℕ) (from to : ℕ) → length s ≡ to → drop from s ≡ bs → Starts r (take (to - from) (drop from s)) before after

@@ -1,4 +1,4 @@
--- The relation that the calls from `device` down to `perform` keep between what is lent before and after, and what was answered.
+-- The relation that the calls from `device` down to `reply_send` keep between what is lent before and after, and what was answered.
 use mathlib.Core.List.{List}
 use Prim.Native.Nat.{ℕ}
 use denote.Ref.{RefT, now}

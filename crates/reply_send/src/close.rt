@@ -6,7 +6,7 @@ ghost use lib.ListN.{length};
 ghost use Rattle.protocol.specs.State.{lent};
 ghost use Rattle.protocol.specs.Box.{close};
 ghost use Rattle.protocol_connection.specs.ConnectionOf.{connectionOf};
-ghost use Rattle.reply_send.specs.Sent.{Sent};
+ghost use Rattle.reply_send.specs.Answers.{Answers};
 
 // A reply of so many bytes, and the connection after it.
 pub struct Replied {
@@ -18,8 +18,8 @@ pub struct Replied {
 pub fn close(connection: Connection, out: &mut [u8], code: u64) -> Replied
     requires { ⌜ 4096 ≤ length (now out) ⌝ }
     ensures { λ r. ⌜ ((store device readings : List ℕ) →
-        Sent (close (lent store device readings (connectionOf connection)) code) (r .written)
-        (now (out .entry)) (now (out .exit)) (lent store device readings (connectionOf (r .connection)))) ⌝ }
+        Answers (λ s. close s code) (lent store device readings (connectionOf connection)) out (r .written)
+        (lent store device readings (connectionOf (r .connection)))) ⌝ }
 {
     Replied {
         written: reply_closing::put_closing(out, connection.number, code),

@@ -14,9 +14,10 @@ use Rattle.base_definitions.specs.Options.{orElse}
 use Rattle.base_definitions.specs.Lists.{all, within, mapL}
 use Rattle.access_record.specs.Table.{scopeGood, aclGood}
 use Rattle.access_table_write.specs.Write.{putScope, putScopes, putAcl}
-use Rattle.fields_lookup.specs.Views.{Inside, bytesAt, treeOf, numView, NumIs, PartIs}
-use Rattle.fields_lookup.specs.declared.parts.Num.{Num}
+use Rattle.base_integers.specs.Signed.{wordOf}
+use Rattle.fields_lookup.specs.Views.{Inside, bytesAt, treeOf, signedView, SignedIs, PartIs}
 use Rattle.fields_lookup.specs.declared.parts.Part.{Part}
+use Rattle.fields_lookup.specs.declared.parts.Signed.{Signed}
 use Rattle.fields_lookup.proofs.Slotted.{length-at}
 use Rattle.protocol.specs.Command.{Scope, Acl}
 use Rattle.protocol.specs.Judge.{permissionsGood, aclRead, wantedScope}
@@ -82,13 +83,13 @@ acl-test a =
     ∙ ap₂ (λ (n : ℕ) (b : Bool). (isSome (a .identity) && (within 1 64 (length (a .key)) && (within 1 4 n && b)))) (length-map wantedScope (a .scopes)) (sym (scopes-all (a .scopes)))
 
 -- ---- what was read of an ACL
-pub record AclFacts (s : List ℕ) (p : Part) (identity : Num) (key : Part) : Type 0 where
+pub record AclFacts (s : List ℕ) (p : Part) (identity : Signed) (key : Part) : Type 0 where
   pub place : Inside s key
-  pub identity-is : numView identity ≡ aclIn s p .identity
+  pub identity-is : signedView identity ≡ aclIn s p .identity
   pub key-is : bytesAt s key ≡ aclIn s p .key
 
 pub acl-facts : (s : List ℕ) (p : Part) (t : Slots) → StandsAcl s p → Tells kind.Acl (bytesAt s p) t (level kind.Acl (bytesAt s p))
-    → (identity : Num) → NumIs t 1 identity → (key : Part) → PartIs s p t 2 key → AclFacts s p identity key
+    → (identity : Signed) → SignedIs t 1 identity → (key : Part) → PartIs s p t 2 key → AclFacts s p identity key
 acl-facts s p t y h identity x key v =
     let l = level-at t y h in
     record {
@@ -97,11 +98,11 @@ acl-facts s p t y h identity x key v =
       key-is = v .lies .empty ∙ ap (orElse []) (v .bytes kind.Acl l refl) ∙ or-empty (rawAt 2 (treeOf kind.Acl (bytesAt s p)));
     }
 
-module _ {s : List ℕ} {p : Part} {identity : Num} {key : Part} (f : AclFacts s p identity key) (out bytes : List ℕ) where
+module _ {s : List ℕ} {p : Part} {identity : Signed} {key : Part} (f : AclFacts s p identity key) (out bytes : List ℕ) where
   pub acl-nameless : identity .has ≡ false → Makes (aclTaken (aclIn s p)) false out bytes
   acl-nameless e =
       let a = aclIn s p in
-      let n : isSome (a .identity) ≡ false = ap isSome (sym (f .identity-is) ∙ ap (λ (b : Bool). guard b (identity .value)) e) in
+      let n : isSome (a .identity) ≡ false = ap isSome (sym (f .identity-is) ∙ ap (λ (b : Bool). guard b (wordOf (identity .value))) e) in
       makes-no (aclTaken a) out bytes (acl-test a ∙ ap (λ (b : Bool). (b && (within 1 64 (length (a .key)) && scopesTaken (a .scopes)))) n)
 
   key-bad : within 1 64 (length (aclIn s p .key)) ≡ false → Makes (aclTaken (aclIn s p)) false out bytes
@@ -118,16 +119,16 @@ module _ {s : List ℕ} {p : Part} {identity : Num} {key : Part} (f : AclFacts s
   pub acl-long : 64 < key .len → Makes (aclTaken (aclIn s p)) false out bytes
   acl-long l = key-bad (ap (within 1 64) key-length ∙ ap (_&&_ (leb 1 (key .len))) (lt-leb (key .len) 64 l) ∙ both-false (leb 1 (key .len)))
 
-pub acl-made : {s : List ℕ} {p : Part} {identity : Num} {key : Part} → AclFacts s p identity key → identity .has ≡ true → 1 ≤ key .len → key .len ≤ 64
-    → (device between out : List ℕ) (place : ℕ) (k : List ℕ) (r : Bool) → k ≡ bytesAt s key → between ≡ putAcl device place (identity .value) k
+pub acl-made : {s : List ℕ} {p : Part} {identity : Signed} {key : Part} → AclFacts s p identity key → identity .has ≡ true → 1 ≤ key .len → key .len ≤ 64
+    → (device between out : List ℕ) (place : ℕ) (w : ℕ) (k : List ℕ) (r : Bool) → w ≡ wordOf (identity .value) → k ≡ bytesAt s key → between ≡ putAcl device place w k
     → Makes (scopesTaken (aclIn s p .scopes)) r out (putScopes between place 0 (mapL wantedScope (aclIn s p .scopes))) → Makes (aclTaken (aclIn s p)) r out (putOne device place (aclIn s p))
 unfolding putOne
-acl-made {s} {p} {identity} {key} f h low high device between out place k r q e m =
+acl-made {s} {p} {identity} {key} f h low high device between out place x k r u q e m =
     let a = aclIn s p in
-    let there : guard true (identity .value) ≡ a .identity = ap (λ (b : Bool). guard b (identity .value)) (sym h) ∙ f .identity-is in
+    let there : guard true (wordOf (identity .value)) ≡ a .identity = ap (λ (b : Bool). guard b (wordOf (identity .value))) (sym h) ∙ f .identity-is in
     let n : isSome (a .identity) ≡ true = ap isSome (sym there) in
     let w : within 1 64 (length (a .key)) ≡ true = ap (within 1 64) (ap length (sym (f .key-is)) ∙ length-at s key (f .place)) ∙ ap₂ _&&_ (le-leb 1 (key .len) low) (le-leb (key .len) 64 high) in
-    let v : identity .value ≡ orElse 0 (a .identity) = ap (orElse 0) there in
+    let v : x ≡ orElse 0 (a .identity) = u ∙ ap (orElse 0) there in
     record {
       answer = m .answer ∙ sym (acl-test a ∙ ap₂ (λ (b c : Bool). (b && (c && scopesTaken (a .scopes)))) n w);
       made = λ t. m .made t ∙ ap (λ (l : List ℕ). putScopes l place 0 (mapL wantedScope (a .scopes))) (e ∙ ap₂ (λ (i : ℕ) (b : List ℕ). putAcl device place i b) v (q ∙ f .key-is));

@@ -10,9 +10,9 @@ use access_acl_write::add_acl;
 use access_acl_write::add_scope;
 use access_record::Record;
 use fields_lookup::parts::Part;
-use fields_lookup::parts::num_of;
 use fields_lookup::parts::open_at;
 use fields_lookup::parts::part_of;
+use fields_lookup::parts::signed_of;
 use fields_repeated::next_part;
 use fields_schema::Kind;
 use fields_schema::field_number::acl;
@@ -77,7 +77,7 @@ pub fn add_acl_from(s: &[u8], p: Part, device: &mut Record, place: usize) -> boo
     ensures { λ r. ⌜ Makes (aclTaken (aclIn (now (s .entry)) p)) r (now (device .exit)) (putOne (now (device .entry)) place (aclIn (now (s .entry)) p)) ⌝ }
 {
     let t = open_at(s, p, Kind::Acl);
-    let identity = num_of(t, acl::IDENTITY);
+    let identity = signed_of(t, acl::IDENTITY);
     let key = part_of(s, p, t, acl::KEY);
     let has = identity.has;
     if !has {

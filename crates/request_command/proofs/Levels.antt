@@ -15,10 +15,10 @@ use Rattle.fields_schema.specs.OptionLaws.{none-of}
 use Rattle.fields_schema.specs.declared.Kind.{Kind}
 use Rattle.fields_schema.specs.declared.Kind.the-variants as k
 use Rattle.base_definitions.specs.Options.{orElse}
-use Rattle.fields_lookup.specs.Views.{Reads, treeOf, bytesAt, numView, partView, noPart, Lies, After, Merges, Sub}
+use Rattle.fields_lookup.specs.Views.{Reads, treeOf, bytesAt, signedView, partView, noPart, Lies, After, Merges, Sub}
 use Rattle.fields_lookup.specs.LevelLaws.{tree-is}
-use Rattle.fields_lookup.specs.LaterLaws.{num-later, later-is}
-use Rattle.fields_lookup.specs.declared.parts.Num.{Num}
+use Rattle.fields_lookup.specs.LaterLaws.{signed-later, later-is}
+use Rattle.fields_lookup.specs.declared.parts.Signed.{Signed}
 use Rattle.fields_lookup.specs.declared.parts.Part.{Part}
 use Rattle.fields_lookup.proofs.Slotted.{sub-view, nil-at, nil-reads}
 use Rattle.protocol.specs.Command as c
@@ -68,7 +68,7 @@ module _ (s : List ℕ) (u : Tree) (b : Body) (h : BodyIs s u b) where
   body-law l q =
       let e1 = part-view keyValueOf (subAt 1 u) (b .keyed) (keyValueView s (b .entry)) (h .keyed) (key-value-view (h .entry)) in
       let e2 = part-view rangeOf (subAt 2 u) (b .ranged) (rangeView s (b .range)) (h .ranged) (range-view (h .range)) in
-      let e3 = part-view setupOf (subAt 3 u) (b .changed) (numView (b .cluster)) (h .changed) (h .cluster) in
+      let e3 = part-view setupOf (subAt 3 u) (b .changed) (signedView (b .cluster)) (h .changed) (h .cluster) in
       let e6 = part-view typesOf (subAt 6 u) (b .logged) (logTypes s) (h .logged) q in
       let e7 = sub-view securityOf (securityOf (treeOf k.Security (bytesAt s (b .security)))) (h .security l) refl in
       λ i. record { keyValue = e1 i; range = e2 i; setup = e3 i; getLog = e6 i; security = e7 i }
@@ -144,7 +144,7 @@ has-later e a = go (e .has) (a .has) refl
         same true = refl
         same false = refl
 
-pub bodies-law : (s : List ℕ) (b a : Body) (k1 k2 k3 k6 : Bool) (x : KeyValue) (y : Range) (w : Num) (q : Part)
+pub bodies-law : (s : List ℕ) (b a : Body) (k1 k2 k3 k6 : Bool) (x : KeyValue) (y : Range) (w : Signed) (q : Part)
     → k1 ≡ cond (b .keyed) true (a .keyed) → k2 ≡ cond (b .ranged) true (a .ranged) → k3 ≡ cond (b .changed) true (a .changed) → k6 ≡ cond (b .logged) true (a .logged)
     → Merges (KeyValueIs s) (b .entry) (a .entry) x → Merges (RangeIs s) (b .range) (a .range) y → w ≡ cond (a .cluster .has) (a .cluster) (b .cluster) → q ≡ cond (a .security .has) (a .security) (b .security)
     → Merges (BodyIs s) b a (record { keyed = k1; entry = x; ranged = k2; range = y; changed = k3; cluster = w; logged = k6; security = q })
@@ -154,7 +154,7 @@ bodies-law s b a k1 k2 k3 k6 x y w q e1 e2 e3 e6 f1 f2 f3 f7 t u h g = record {
   ranged = there-join 2 t u (b .ranged) (a .ranged) k2 (h .ranged) (g .ranged) e2;
   range = subst (λ (v : Tree). RangeIs s v y) (sym (sub-in 2 t u)) (f2 (treeIn (subAt 2 t)) (treeIn (subAt 2 u)) (h .range) (g .range));
   changed = there-join 3 t u (b .changed) (a .changed) k3 (h .changed) (g .changed) e3;
-  cluster = subst (λ (v : Tree). SetupIs v w) (sym (sub-in 3 t u)) (num-later 1 (treeIn (subAt 3 t)) (treeIn (subAt 3 u)) (b .cluster) (a .cluster) w f3 (h .cluster) (g .cluster));
+  cluster = subst (λ (v : Tree). SetupIs v w) (sym (sub-in 3 t u)) (signed-later 1 (treeIn (subAt 3 t)) (treeIn (subAt 3 u)) (b .cluster) (a .cluster) w f3 (h .cluster) (g .cluster));
   logged = there-join 6 t u (b .logged) (a .logged) k6 (h .logged) (g .logged) e6;
   secured = there-join 7 t u (b .security .has) (a .security .has) (q .has) (h .secured) (g .secured) (ap (λ (p : Part). p .has) f7 ∙ has-later (a .security) (b .security));
   lies = later-is (λ (p : Part). Lies s p) (a .security .has) (b .security) (a .security) q f7 (h .lies) (g .lies);

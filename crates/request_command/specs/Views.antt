@@ -10,7 +10,7 @@ use lib.Dec.{leb}
 use Rattle.fields_schema.specs.FieldNumbers.{Body-keyValue, Body-range, Body-setup, Body-getLog, Body-security}
 use Rattle.fields_schema.specs.Tree.{guard, isSome, Tree, subAt, treeIn, subsAt}
 use Rattle.fields_schema.specs.declared.Kind.the-variants.{Command, Security}
-use Rattle.fields_lookup.specs.Views.{numView, bytesAt, Lies, Reads, Sub, treeOf}
+use Rattle.fields_lookup.specs.Views.{signedView, bytesAt, Lies, Reads, Sub, treeOf}
 use Rattle.protocol.specs.Command as c
 use Rattle.base_definitions.specs.Options.{orElse}
 use Rattle.protocol.specs.Command.{securityOf}
@@ -27,7 +27,7 @@ bodyView s b =
     record {
       keyValue = guard (b .keyed) (keyValueView s (b .entry));
       range = guard (b .ranged) (rangeView s (b .range));
-      setup = guard (b .changed) (numView (b .cluster));
+      setup = guard (b .changed) (signedView (b .cluster));
       getLog = guard (b .logged) (logTypes s);
       security = guard (b .security .has) (securityOf (treeOf Security (bytesAt s (b .security))));
     }

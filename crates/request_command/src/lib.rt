@@ -12,10 +12,10 @@ ghost use Rattle.protocol.specs.Command.{commandOf};
 ghost use Rattle.protocol.specs.Reading.{decodes, securityOnce};
 ghost use Rattle.request_command.specs.Views.{BodyIs, BodyLies, CountIs, Secured, requestView};
 use fields_decode::nested::reads;
-use fields_lookup::parts::Num;
 use fields_lookup::parts::Part;
-use fields_lookup::parts::later_num;
+use fields_lookup::parts::Signed;
 use fields_lookup::parts::later_part;
+use fields_lookup::parts::later_signed;
 use fields_lookup::parts::open_at;
 use fields_lookup::parts::part_of;
 use fields_lookup::parts::sent_twice;
@@ -43,7 +43,7 @@ pub struct Body {
     pub ranged: bool,
     pub range: Range,
     pub changed: bool,
-    pub cluster: Num,
+    pub cluster: Signed,
     pub logged: bool,
     pub security: Part,
 }
@@ -74,7 +74,7 @@ fn no_body() -> Body
         ranged: false,
         range: no_range(),
         changed: false,
-        cluster: Num {
+        cluster: Signed {
             has: false,
             value: 0,
         },
@@ -123,7 +123,7 @@ fn merge_bodies(before: Body, after: Body) -> Body
         ranged: either(before.ranged, after.ranged),
         range: merge_ranges(before.range, after.range),
         changed: either(before.changed, after.changed),
-        cluster: later_num(before.cluster, after.cluster),
+        cluster: later_signed(before.cluster, after.cluster),
         logged: either(before.logged, after.logged),
         security: later_part(before.security, after.security),
     }

@@ -4,11 +4,11 @@ ghost use Rattle.fields_schema.specs.Tree.{done, subAt, treeIn};
 ghost use Rattle.fields_lookup.specs.Views.{Inside, Only, Reads, bytesAt, treeOf};
 ghost use Rattle.request_parts.specs.Views.{HeaderIs, KeyValueIs, RangeIs};
 ghost use Rattle.request_merged.specs.Setups.{SetupIs};
-use fields_lookup::parts::Num;
 use fields_lookup::parts::Part;
-use fields_lookup::parts::later_num;
-use fields_lookup::parts::num_of;
+use fields_lookup::parts::Signed;
+use fields_lookup::parts::later_signed;
 use fields_lookup::parts::open_at;
+use fields_lookup::parts::signed_of;
 use fields_repeated::next_part;
 use fields_schema::Kind;
 use fields_schema::field_number::body;
@@ -132,25 +132,25 @@ pub fn range_in(s: &[u8], p: Part, a: Part, twice: bool) -> Range
     read_range(s, a)
 }
 
-fn no_setup() -> Num
+fn no_setup() -> Signed
     ensures { λ r. ⌜ SetupIs done r ⌝ }
 {
-    Num {
+    Signed {
         has: false,
         value: 0,
     }
 }
 
-fn read_setup(s: &[u8], p: Part) -> Num
+fn read_setup(s: &[u8], p: Part) -> Signed
     requires { ⌜ Inside (now s) p × Reads (Kind.Setup) (bytesAt (now s) p) ⌝ }
     ensures { λ r. ⌜ SetupIs (treeOf (Kind.Setup) (bytesAt (now (s .entry)) p)) r ⌝ }
 {
     let t = open_at(s, p, Kind::Setup);
-    num_of(t, setup::NEW_CLUSTER_VERSION)
+    signed_of(t, setup::NEW_CLUSTER_VERSION)
 }
 
 // Every setup of the body in the part p.
-fn read_setups(s: &[u8], p: Part) -> Num
+fn read_setups(s: &[u8], p: Part) -> Signed
     requires { ⌜ Inside (now s) p × Reads (Kind.Body) (bytesAt (now s) p) ⌝ }
     ensures { λ r. ⌜ SetupIs (treeIn (subAt Body-setup (treeOf (Kind.Body) (bytesAt (now (s .entry)) p)))) r ⌝ }
 {
@@ -162,14 +162,14 @@ fn read_setups(s: &[u8], p: Part) -> Num
         if !has {
             return n;
         }
-        n = later_num(n, read_setup(s, x.part));
+        n = later_signed(n, read_setup(s, x.part));
         left = x.rest;
     }
     n
 }
 
 // The same, where a is the last one, and the only one unless a singular field of the body was sent twice.
-pub fn setup_in(s: &[u8], p: Part, a: Part, twice: bool) -> Num
+pub fn setup_in(s: &[u8], p: Part, a: Part, twice: bool) -> Signed
     requires { ⌜ Inside (now s) p × Reads (Kind.Body) (bytesAt (now s) p)
         × Only (Kind.Setup) (now s) a twice (subAt Body-setup (treeOf (Kind.Body) (bytesAt (now s) p))) ⌝ }
     ensures { λ r. ⌜ SetupIs (treeIn (subAt Body-setup (treeOf (Kind.Body) (bytesAt (now (s .entry)) p)))) r ⌝ }

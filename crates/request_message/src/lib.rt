@@ -11,12 +11,14 @@ ghost use Rattle.request_message.specs.Messages.{AuthIs, SealedLies, sea
 use fields_decode::nested::reads;
 use fields_lookup::parts::Num;
 use fields_lookup::parts::Part;
-use fields_lookup::parts::later_num;
+use fields_lookup::parts::Signed;
 use fields_lookup::parts::later_part;
+use fields_lookup::parts::later_signed;
 use fields_lookup::parts::num_of;
 use fields_lookup::parts::open_at;
 use fields_lookup::parts::part_of;
 use fields_lookup::parts::sent_twice;
+use fields_lookup::parts::signed_of;
 use fields_repeated::next_part;
 use fields_schema::Kind;
 use fields_schema::field_number::hmac_auth;
@@ -24,14 +26,14 @@ use fields_schema::field_number::message;
 use protocol::auth_type::HMACAUTH;
 
 pub struct Auth {
-    pub identity: Num,
+    pub identity: Signed,
     pub hmac: Part,
 }
 
 // ok is false where step 1 refuses the message.
 pub struct Sealed {
     pub ok: bool,
-    pub identity: u64,
+    pub identity: i64,
     pub hmac: Part,
     pub command: Part,
 }
@@ -63,7 +65,7 @@ fn no_auth() -> Auth
     ensures { λ r. ⌜ ((s : List ℕ) → AuthIs s done r) ⌝ }
 {
     Auth {
-        identity: Num {
+        identity: Signed {
             has: false,
             value: 0,
         },
@@ -81,7 +83,7 @@ fn read_auth(s: &[u8], p: Part) -> Auth
 {
     let t = open_at(s, p, Kind::HmacAuth);
     Auth {
-        identity: num_of(t, hmac_auth::IDENTITY),
+        identity: signed_of(t, hmac_auth::IDENTITY),
         hmac: part_of(s, p, t, hmac_auth::HMAC),
     }
 }
@@ -90,7 +92,7 @@ fn merge_auths(before: Auth, after: Auth) -> Auth
     ensures { λ r. ⌜ ((s : List ℕ) → Merges (AuthIs s) before after r) ⌝ }
 {
     Auth {
-        identity: later_num(before.identity, after.identity),
+        identity: later_signed(before.identity, after.identity),
         hmac: later_part(before.hmac, after.hmac),
     }
 }

@@ -6,19 +6,21 @@ use mathlib.Core.List.{List}
 use mathlib.Core.Option.{Option}
 use Rattle.fields_schema.specs.declared.Kind.the-variants as k
 use Rattle.fields_decode.specs.declared.slots.Slots.{Slots}
-use Rattle.fields_lookup.specs.Views.{treeOf, bytesAt, numView, Level, Lies, Merges, NumIs, PartIs}
-use Rattle.fields_lookup.specs.LaterLaws.{num-later, part-later, later-is}
+use Rattle.fields_lookup.specs.Views.{treeOf, bytesAt, numView, Level, Lies, Merges, NumIs, SignedIs, PartIs}
+use Rattle.fields_lookup.specs.LaterLaws.{num-later, signed-later, part-later, later-is}
+use Rattle.fields_lookup.specs.LevelLaws.{tree-is}
 use Rattle.fields_lookup.specs.declared.parts.Num.{Num}
 use Rattle.fields_lookup.specs.declared.parts.Part.{Part}
+use Rattle.fields_lookup.specs.declared.parts.Signed.{Signed}
 use Rattle.base_definitions.specs.Options.{orElse}
-use Rattle.request_parts.proofs.Algorithm.{algorithm-most}
+use Rattle.protocol.specs.AlgorithmLaws.{key-value-most}
 use Rattle.request_parts.specs.Views.{HeaderIs, KeyValueIs, RangeIs}
 use Rattle.request_parts.specs.declared.Header.{Header}
 use Rattle.request_parts.specs.declared.KeyValue.{KeyValue}
 use Rattle.request_parts.specs.declared.Range.{Range}
 
 module _ (s : List ℕ) (p : Part) (t : Slots) where
-  pub header-law : Level k.Header (bytesAt s p) t → (a1 a3 a4 a7 : Num) → NumIs t 1 a1 → NumIs t 3 a3 → NumIs t 4 a4 → NumIs t 7 a7
+  pub header-law : Level k.Header (bytesAt s p) t → (a1 a3 a4 : Signed) (a7 : Num) → SignedIs t 1 a1 → SignedIs t 3 a3 → SignedIs t 4 a4 → NumIs t 7 a7
       → HeaderIs (treeOf k.Header (bytesAt s p)) (record { cluster = a1; connection = a3; sequence = a4; kind = a7 })
   header-law y a1 a3 a4 a7 e1 e3 e4 e7 =
       let m = bytesAt s p in
@@ -42,7 +44,7 @@ module _ (s : List ℕ) (p : Part) (t : Slots) where
           key = e3 .lies;
           expected = e4 .lies;
           tag = e5 .lies;
-          algorithm = subst (λ (o : Option ℕ). orElse 0 o ≤ 6) (sym (e6 k.KeyValue m y refl)) (algorithm-most m (y .reads));
+          algorithm = subst (λ (o : Option ℕ). orElse 0 o ≤ 6) (sym (e6 k.KeyValue m y refl)) (key-value-most m (tree-is k.KeyValue m (y .reads)));
         };
       }
 
@@ -64,16 +66,19 @@ module _ (s : List ℕ) (p : Part) (t : Slots) where
 abbrev NumLater : Num → Num → Num → Type 0
 NumLater b a r = r ≡ cond (a .has) a b
 
+abbrev SignedLater : Signed → Signed → Signed → Type 0
+SignedLater b a r = r ≡ cond (a .has) a b
+
 abbrev PartLater : Part → Part → Part → Type 0
 PartLater b a r = r ≡ cond (a .has) a b
 
-pub headers-law : (b a : Header) (r1 r3 r4 r7 : Num)
-    → NumLater (b .cluster) (a .cluster) r1 → NumLater (b .connection) (a .connection) r3 → NumLater (b .sequence) (a .sequence) r4 → NumLater (b .kind) (a .kind) r7
+pub headers-law : (b a : Header) (r1 r3 r4 : Signed) (r7 : Num)
+    → SignedLater (b .cluster) (a .cluster) r1 → SignedLater (b .connection) (a .connection) r3 → SignedLater (b .sequence) (a .sequence) r4 → NumLater (b .kind) (a .kind) r7
     → Merges HeaderIs b a (record { cluster = r1; connection = r3; sequence = r4; kind = r7 })
 headers-law b a r1 r3 r4 r7 e1 e3 e4 e7 t u x y = record {
-  cluster = num-later 1 t u (b .cluster) (a .cluster) r1 e1 (x .cluster) (y .cluster);
-  connection = num-later 3 t u (b .connection) (a .connection) r3 e3 (x .connection) (y .connection);
-  sequence = num-later 4 t u (b .sequence) (a .sequence) r4 e4 (x .sequence) (y .sequence);
+  cluster = signed-later 1 t u (b .cluster) (a .cluster) r1 e1 (x .cluster) (y .cluster);
+  connection = signed-later 3 t u (b .connection) (a .connection) r3 e3 (x .connection) (y .connection);
+  sequence = signed-later 4 t u (b .sequence) (a .sequence) r4 e4 (x .sequence) (y .sequence);
   kind = num-later 7 t u (b .kind) (a .kind) r7 e7 (x .kind) (y .kind);
 }
 

@@ -3,7 +3,7 @@
 use mathlib.Core.Path.{_≡_}
 use mathlib.Core.List.{List, []}
 use Prim.Native.Nat.{ℕ, _≤_}
-use Rattle.fields_lookup.specs.Views.{numView, partView, Lies}
+use Rattle.fields_lookup.specs.Views.{numView, signedView, partView, Lies}
 use Rattle.protocol.specs.Command as c
 use Rattle.base_definitions.specs.Options.{orElse}
 use Rattle.protocol.specs.Command.{flag}
@@ -18,9 +18,9 @@ use Rattle.request_parts.specs.declared.Range.{Range}
 abbrev pub headerView : Header → c.Header
 headerView h =
     record {
-      clusterVersion = orElse 0 (numView (h .cluster));
-      connectionID = numView (h .connection);
-      sequence = numView (h .sequence);
+      clusterVersion = orElse 0 (signedView (h .cluster));
+      connectionID = signedView (h .connection);
+      sequence = signedView (h .sequence);
       messageType = numView (h .kind);
     }
 
@@ -62,9 +62,9 @@ pub record RangeLies (s : List ℕ) (r : Range) : Type 0 where
 
 -- what is read of the headers, keyValues or ranges that t joins: each field as t has it
 pub record HeaderIs (t : Tree) (h : Header) : Type 0 where
-  pub cluster : numView (h .cluster) ≡ intAt Header-clusterVersion t
-  pub connection : numView (h .connection) ≡ intAt Header-connectionID t
-  pub sequence : numView (h .sequence) ≡ intAt Header-sequence t
+  pub cluster : signedView (h .cluster) ≡ intAt Header-clusterVersion t
+  pub connection : signedView (h .connection) ≡ intAt Header-connectionID t
+  pub sequence : signedView (h .sequence) ≡ intAt Header-sequence t
   pub kind : numView (h .kind) ≡ intAt Header-messageType t
 
 pub record KeyValueIs (s : List ℕ) (t : Tree) (k : KeyValue) : Type 0 where

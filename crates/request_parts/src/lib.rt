@@ -6,11 +6,14 @@ ghost use Rattle.fields_lookup.specs.Views.{Inside, Merges, Reads, bytesAt, tre
 ghost use Rattle.request_parts.specs.Views.{HeaderIs, KeyValueIs, RangeIs};
 use fields_lookup::parts::Num;
 use fields_lookup::parts::Part;
+use fields_lookup::parts::Signed;
 use fields_lookup::parts::later_num;
 use fields_lookup::parts::later_part;
+use fields_lookup::parts::later_signed;
 use fields_lookup::parts::num_of;
 use fields_lookup::parts::open_at;
 use fields_lookup::parts::part_of;
+use fields_lookup::parts::signed_of;
 use fields_schema::Kind;
 use fields_schema::field_number::header;
 use fields_schema::field_number::key_value;
@@ -18,9 +21,9 @@ use fields_schema::field_number::range;
 
 // clusterVersion, connectionID, sequence and messageType.
 pub struct Header {
-    pub cluster: Num,
-    pub connection: Num,
-    pub sequence: Num,
+    pub cluster: Signed,
+    pub connection: Signed,
+    pub sequence: Signed,
     pub kind: Num,
 }
 
@@ -51,9 +54,9 @@ pub fn read_header(s: &[u8], p: Part) -> Header
 {
     let t = open_at(s, p, Kind::Header);
     Header {
-        cluster: num_of(t, header::CLUSTER_VERSION),
-        connection: num_of(t, header::CONNECTION_ID),
-        sequence: num_of(t, header::SEQUENCE),
+        cluster: signed_of(t, header::CLUSTER_VERSION),
+        connection: signed_of(t, header::CONNECTION_ID),
+        sequence: signed_of(t, header::SEQUENCE),
         kind: num_of(t, header::MESSAGE_TYPE),
     }
 }
@@ -61,7 +64,7 @@ pub fn read_header(s: &[u8], p: Part) -> Header
 pub fn no_header() -> Header
     ensures { λ r. ⌜ HeaderIs done r ⌝ }
 {
-    let none = Num {
+    let none = Signed {
         has: false,
         value: 0,
     };
@@ -69,7 +72,10 @@ pub fn no_header() -> Header
         cluster: none,
         connection: none,
         sequence: none,
-        kind: none,
+        kind: Num {
+            has: false,
+            value: 0,
+        },
     }
 }
 
@@ -77,9 +83,9 @@ pub fn merge_headers(before: Header, after: Header) -> Header
     ensures { λ r. ⌜ Merges HeaderIs before after r ⌝ }
 {
     Header {
-        cluster: later_num(before.cluster, after.cluster),
-        connection: later_num(before.connection, after.connection),
-        sequence: later_num(before.sequence, after.sequence),
+        cluster: later_signed(before.cluster, after.cluster),
+        connection: later_signed(before.connection, after.connection),
+        sequence: later_signed(before.sequence, after.sequence),
         kind: later_num(before.kind, after.kind),
     }
 }

@@ -12,12 +12,13 @@ use Rattle.fields_schema.specs.declared.Kind.the-variants as kind
 use Rattle.fields_decode.specs.declared.slots.Slots.{Slots}
 use Rattle.base_definitions.specs.Options.{orElse}
 use Rattle.base_definitions.specs.Lists.{all, within, isEmpty}
-use Rattle.access_record.specs.Table.{named, maskOf, maskGood, scopeGood}
+use Rattle.access_record.specs.Table.{named, maskOf, maskGood, offsetGood, scopeGood}
 use Rattle.access_record.specs.TableLaws.{both-snd}
 use Rattle.access_record.specs.MaskLaws.{mask-good}
-use Rattle.fields_lookup.specs.Views.{Inside, bytesAt, treeOf, numView, NumIs, PartIs}
+use Rattle.fields_lookup.specs.Views.{Inside, bytesAt, treeOf, numView, signedView, NumIs, SignedIs, PartIs}
 use Rattle.fields_lookup.specs.declared.parts.Num.{Num}
 use Rattle.fields_lookup.specs.declared.parts.Part.{Part}
+use Rattle.fields_lookup.specs.declared.parts.Signed.{Signed}
 use Rattle.fields_lookup.proofs.Slotted.{length-at}
 use Rattle.protocol.specs.Command.{Scope, flag}
 use Rattle.protocol.specs.Judge.{permissionsGood}
@@ -36,7 +37,7 @@ pub record Facts (s : List ℕ) (p value : Part) (offset : ℕ) (tls : Bool) (he
   pub held-is : PermissionsAre (scopeIn s p) held
 
 pub facts-of : (s : List ℕ) (p : Part) (t : Slots) → StandsScope s p → Tells kind.Scope (bytesAt s p) t (level kind.Scope (bytesAt s p))
-    → (value : Part) → PartIs s p t 2 value → (a : Num) (offset : ℕ) → NumIs t 1 a → offset ≡ orElse 0 (numView a) → (b : Num) (tls : Bool) → NumIs t 4 b → tls ≡ flag (numView b)
+    → (value : Part) → PartIs s p t 2 value → (a : Signed) (offset : ℕ) → SignedIs t 1 a → offset ≡ orElse 0 (signedView a) → (b : Num) (tls : Bool) → NumIs t 4 b → tls ≡ flag (numView b)
     → (held : Permissions) → PermissionsAre (scopeIn s p) held → Facts s p value offset tls held
 facts-of s p t y h value v a offset x e b tls z f held g =
     let l = level-at t y h in
@@ -49,7 +50,7 @@ facts-of s p t y h value v a offset x e b tls z f held g =
     }
 
 -- ---- its rules
-taken-test : (c : Scope) → scopeTaken c ≡ (permissionsGood c && (leb (c .offset) 64 && (leb (length (c .value)) 64 && maskGood (maskOf (c .permissions)))))
+taken-test : (c : Scope) → scopeTaken c ≡ (permissionsGood c && (offsetGood (c .offset) && (leb (length (c .value)) 64 && maskGood (maskOf (c .permissions)))))
 unfolding scopeTaken scopeGood
 taken-test c = refl
 
@@ -68,12 +69,12 @@ module _ {s : List ℕ} {p value : Part} {offset : ℕ} {tls : Bool} {held : Per
   pub scope-unnamed : held .ok ≡ false → (r : ReadScope) → r ≡ refusedScope value → ScopeIs s (scopeIn s p) r
   scope-unnamed n r e =
       let c = scopeIn s p in
-      refused r e (taken-test c ∙ ap (λ (b : Bool). (b && (leb (c .offset) 64 && (leb (length (c .value)) 64 && maskGood (maskOf (c .permissions)))))) (sym (f .held-is .ok) ∙ n))
+      refused r e (taken-test c ∙ ap (λ (b : Bool). (b && (offsetGood (c .offset) && (leb (length (c .value)) 64 && maskGood (maskOf (c .permissions)))))) (sym (f .held-is .ok) ∙ n))
 
-  pub scope-far : leb offset 64 ≡ false → (r : ReadScope) → r ≡ refusedScope value → ScopeIs s (scopeIn s p) r
+  pub scope-far : offsetGood offset ≡ false → (r : ReadScope) → r ≡ refusedScope value → ScopeIs s (scopeIn s p) r
   scope-far n r e =
       let c = scopeIn s p in
-      let x : leb (c .offset) 64 ≡ false = ap (λ (k : ℕ). leb k 64) (sym (f .offset-is)) ∙ n in
+      let x : offsetGood (c .offset) ≡ false = ap offsetGood (sym (f .offset-is)) ∙ n in
       refused r e (taken-test c ∙ ap (λ (b : Bool). (permissionsGood c && (b && (leb (length (c .value)) 64 && maskGood (maskOf (c .permissions)))))) x ∙ both-false (permissionsGood c))
 
   value-length : length (scopeIn s p .value) ≡ value .len
@@ -83,18 +84,18 @@ module _ {s : List ℕ} {p value : Part} {offset : ℕ} {tls : Bool} {held : Per
   scope-long n r e =
       let c = scopeIn s p in
       let x : leb (length (c .value)) 64 ≡ false = ap (λ (k : ℕ). leb k 64) value-length ∙ lt-leb (value .len) 64 n in
-      refused r e (taken-test c ∙ ap (λ (b : Bool). (permissionsGood c && (leb (c .offset) 64 && (b && maskGood (maskOf (c .permissions)))))) x ∙ ap (_&&_ (permissionsGood c)) (both-false (leb (c .offset) 64)) ∙ both-false (permissionsGood c))
+      refused r e (taken-test c ∙ ap (λ (b : Bool). (permissionsGood c && (offsetGood (c .offset) && (b && maskGood (maskOf (c .permissions)))))) x ∙ ap (_&&_ (permissionsGood c)) (both-false (offsetGood (c .offset))) ∙ both-false (permissionsGood c))
 
-  pub scope-read : held .ok ≡ true → leb offset 64 ≡ true → value .len ≤ 64 → ScopeIs s (scopeIn s p) (record { ok = true; offset = offset; mask = held .mask; tls = tls; value = value })
-  scope-read h o v =
+  pub scope-read : held .ok ≡ true → offsetGood offset ≡ true → value .len ≤ 64 → (n : ℕ) → n ≡ offset → ScopeIs s (scopeIn s p) (record { ok = true; offset = n; mask = held .mask; tls = tls; value = value })
+  scope-read h o v n j =
       let c = scopeIn s p in
       let g : permissionsGood c ≡ true = sym (f .held-is .ok) ∙ h in
-      let x : leb (c .offset) 64 ≡ true = ap (λ (k : ℕ). leb k 64) (sym (f .offset-is)) ∙ o in
+      let x : offsetGood (c .offset) ≡ true = ap offsetGood (sym (f .offset-is)) ∙ o in
       let y : leb (length (c .value)) 64 ≡ true = ap (λ (k : ℕ). leb k 64) value-length ∙ le-leb (value .len) 64 v in
-      let rest : (leb (c .offset) 64 && (leb (length (c .value)) 64 && maskGood (maskOf (c .permissions)))) ≡ true =
+      let rest : (offsetGood (c .offset) && (leb (length (c .value)) 64 && maskGood (maskOf (c .permissions)))) ≡ true =
       ap₂ (λ (a b : Bool). (a && (b && maskGood (maskOf (c .permissions))))) x y ∙ good-mask c g in
       let m = f .held-is .mask h in
-      let e1 = f .offset-is in
+      let e1 = j ∙ f .offset-is in
       let e2 = f .value-is in
       let e4 = f .tls-is in
       record {

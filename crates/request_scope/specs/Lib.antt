@@ -1,5 +1,3 @@
-pub mod Offset
-pub mod OffsetLaws
 pub mod Stands
 pub mod Scope
 pub mod ScopeLaws

@@ -1,20 +1,21 @@
 // One scope of the Security part of a command: read, and judged by the ACL rules.
 ghost use mathlib.Core.Path.{_≡_};
-ghost use lib.Dec.{leb};
+ghost use Rattle.base_integers.specs.Signed.{wordOf};
+ghost use Rattle.access_record.specs.Table.{offsetGood};
 ghost use Rattle.request_scope.specs.Stands.{StandsScope, scopeIn};
 ghost use Rattle.request_scope.specs.Scope.{noPermissions, PermissionsAre, refusedScope, ScopeIs};
 use access_permission_set::is_permission;
 use access_permission_set::with_bit;
-use base_integers::signed;
 use fields_lookup::parts::Part;
 use fields_lookup::parts::num_of;
 use fields_lookup::parts::open_at;
 use fields_lookup::parts::part_of;
+use fields_lookup::parts::signed_of;
 use fields_repeated::next_num;
 use fields_schema::Kind;
 use fields_schema::field_number::scope;
 use request_command::numbers::flag_of;
-use request_command::numbers::number_or;
+use request_command::numbers::signed_or;
 
 // Whether the permissions of a scope are good, and if so their set.
 pub struct Permissions {
@@ -76,15 +77,14 @@ fn refused_scope(value: Part) -> ReadScope
     }
 }
 
-// Is the offset, as a signed number, from 0 to 64?
-fn offset_good(offset: u64) -> bool
-    ensures { λ r. ⌜ r ≡ leb offset 64 ⌝ }
+// Is the offset from 0 to 64?
+fn offset_good(offset: i64) -> bool
+    ensures { λ r. ⌜ r ≡ offsetGood (wordOf offset) ⌝ }
 {
-    let number = signed(offset);
-    if number < 0 {
+    if offset < 0 {
         return false;
     }
-    if 64 < number {
+    if 64 < offset {
         return false;
     }
     true
@@ -97,7 +97,7 @@ pub fn read_scope(s: &[u8], p: Part) -> ReadScope
 {
     let t = open_at(s, p, Kind::Scope);
     let value = part_of(s, p, t, scope::VALUE);
-    let offset = number_or(num_of(t, scope::OFFSET), 0);
+    let offset = signed_or(signed_of(t, scope::OFFSET), 0);
     let tls = flag_of(num_of(t, scope::TLS_REQUIRED));
     let held = permissions_of(s, p);
     let ok = held.ok;

@@ -1,4 +1,5 @@
 // The Security part of a command: judged by the ACL rules and written as a device record.
+ghost use Rattle.base_integers.specs.Signed.{wordOf};
 ghost use Rattle.base_definitions.specs.Lists.{mapL};
 ghost use Rattle.protocol.specs.Judge.{wantedAcl, wanted, securityGood};
 ghost use Rattle.access_record.specs.Record.{tableBytes};
@@ -39,9 +40,10 @@ fn add_acls(s: &[u8], p: Part, device: &mut Record) -> bool
 }
 
 // The table that the Security in the part p asks for, judged, and written into the scratch record.
-pub fn security_table(s: &[u8], p: Part, version: u64, scratch: &mut Record) -> bool
+pub fn security_table(s: &[u8], p: Part, version: i64, scratch: &mut Record) -> bool
     requires { ⌜ StandsSecurity (now s) p ⌝ }
-    ensures { λ r. ⌜ Makes (securityGood (aclsIn (now (s .entry)) p)) r (now (scratch .exit)) (tableBytes (wanted version (aclsIn (now (s .entry)) p))) ⌝ }
+    ensures { λ r. ⌜ Makes (securityGood (aclsIn (now (s .entry)) p)) r (now (scratch .exit))
+        (tableBytes (wanted (wordOf version) (aclsIn (now (s .entry)) p))) ⌝ }
 {
     clear_table(scratch, version);
     if !add_acls(s, p, scratch) {

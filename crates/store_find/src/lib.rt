@@ -7,12 +7,12 @@ use store_block::offsets::KEY;
 use store_block::offsets::TAG;
 use store_block::offsets::VALUE;
 use store_block::offsets::VERSION;
-use store_layout::Found;
-use store_layout::Part;
+use store_layout::EntryPart;
+use store_layout::KeyPlace;
 use store_layout::Parts;
 
 // The place of a key, or where it would go.
-pub fn find(store: &[u8], key: &[u8]) -> Found
+pub fn find(store: &[u8], key: &[u8]) -> KeyPlace
     ensures { λ r. ⌜ Sought (now (store .entry)) (now (key .entry)) r ⌝ }
 {
     let n = store.len() / BLOCK_BYTES;
@@ -20,19 +20,19 @@ pub fn find(store: &[u8], key: &[u8]) -> Found
     let mut a: usize = 0;
     while i < n {
         if store[a] == 0 {
-            return Found::Gap(i);
+            return KeyPlace::Gap(i);
         }
         let s = a + KEY;
         let e = s + base_integers::as_usize::wide(store[a + 1]);
         match store_block::compare(key, &store[s..e]) {
-            Order::Less => return Found::Gap(i),
-            Order::Equal => return Found::At(i),
+            Order::Less => return KeyPlace::Gap(i),
+            Order::Equal => return KeyPlace::At(i),
             Order::Greater => {}
         }
         i += 1;
         a += BLOCK_BYTES;
     }
-    Found::Gap(i)
+    KeyPlace::Gap(i)
 }
 
 // Where the parts of the entry at a place lie; empty parts where there is none.
@@ -51,19 +51,19 @@ pub fn entry_at(store: &[u8], i: usize) -> Parts
     let k = base_integers::as_usize::wide(store[a + 1]);
     let v = base_integers::as_usize::wide(store[a + 2]);
     let t = base_integers::as_usize::wide(store[a + 3]);
-    let key = Part {
+    let key = EntryPart {
         start: a + KEY,
         len: k,
     };
-    let version = Part {
+    let version = EntryPart {
         start: a + VERSION,
         len: v,
     };
-    let tag = Part {
+    let tag = EntryPart {
         start: a + TAG,
         len: t,
     };
-    let value = Part {
+    let value = EntryPart {
         start: a + VALUE,
         len: n,
     };
@@ -80,7 +80,7 @@ pub fn entry_at(store: &[u8], i: usize) -> Parts
 fn no_parts() -> Parts
     ensures { λ r. ⌜ r ≡ noParts ⌝ }
 {
-    let p = Part { start: 0, len: 0 };
+    let p = EntryPart { start: 0, len: 0 };
     Parts {
         key: p,
         version: p,

@@ -10,15 +10,15 @@ use Rattle.store_block.specs.declared.Order.the-variants.{Less, Equal, Greater}
 use Rattle.store_block.specs.Order.{cmp}
 use Rattle.store_block.specs.Entry.{Entry, entry, noEntry}
 use Rattle.store_block.specs.Block.{fitTest}
-use Rattle.store_layout.specs.declared.Found.{Found}
-use Rattle.store_layout.specs.declared.Found.the-variants.{At, Gap}
-use Rattle.store_layout.specs.declared.Place.{Place}
-use Rattle.store_layout.specs.declared.Place.the-variants.{There, Nothing}
+use Rattle.store_layout.specs.declared.KeyPlace.{KeyPlace}
+use Rattle.store_layout.specs.declared.KeyPlace.the-variants.{At, Gap}
+use Rattle.store_layout.specs.declared.EntryPlace.{EntryPlace}
+use Rattle.store_layout.specs.declared.EntryPlace.the-variants.{There, Nothing}
 use Rattle.store_layout.specs.declared.PutAnswer.{PutAnswer}
 use Rattle.store_layout.specs.declared.PutAnswer.the-variants.{Stored, Full, Unfit}
 use Rattle.store_layout.specs.declared.DeleteAnswer.{DeleteAnswer}
 use Rattle.store_layout.specs.declared.DeleteAnswer.the-variants.{Deleted, Missing}
-use Rattle.store_layout.specs.declared.Part.{Part}
+use Rattle.store_layout.specs.declared.EntryPart.{EntryPart}
 use Rattle.store_layout.specs.declared.Parts.{Parts}
 use Rattle.store_layout.specs.Store.{entriesOf, bytesOf, blocksIn, Good}
 
@@ -28,24 +28,24 @@ byOrder Equal a b c = b
 byOrder Greater a b c = c
 
 -- where a key stands, or would stand, when the first entry has place i
-unfoldable pub findFrom : ℕ → List ℕ → List Entry → Found
+unfoldable pub findFrom : ℕ → List ℕ → List Entry → KeyPlace
 findFrom i k [] = Gap i
 findFrom i k (e ∷ es) = byOrder (cmp k (e .key)) (Gap i) (At i) (findFrom (i + 1) k es)
 
-unfoldable pub findIn : List ℕ → List Entry → Found
+unfoldable pub findIn : List ℕ → List Entry → KeyPlace
 findIn k es = findFrom 0 k es
 
 -- the place that a search gives, and the one past what it found
-unfoldable pub placeOf : Found → ℕ
+unfoldable pub placeOf : KeyPlace → ℕ
 placeOf (At i) = i
 placeOf (Gap i) = i
 
-unfoldable pub pastOf : Found → ℕ
+unfoldable pub pastOf : KeyPlace → ℕ
 pastOf (At i) = i + 1
 pastOf (Gap i) = i
 
 -- what find promises: a place inside the store, for a good one the right place
-pub record Sought (l k : List ℕ) (r : Found) : Type 0 where
+pub record Sought (l k : List ℕ) (r : KeyPlace) : Type 0 where
   pub within : pastOf r ≤ blocksIn l
   pub same : Good l → r ≡ findIn k (entriesOf l)
 
@@ -60,29 +60,29 @@ upTo k [] = 0
 upTo k (e ∷ es) = byOrder (cmp (e .key) k) (1 + upTo k es) (1 + upTo k es) (upTo k es)
 
 -- "nearest stored key strictly above": the place of the first that is above k, when the first entry has place i
-unfoldable pub nextFrom : ℕ → List ℕ → List Entry → Place
+unfoldable pub nextFrom : ℕ → List ℕ → List Entry → EntryPlace
 nextFrom i k [] = Nothing
 nextFrom i k (e ∷ es) = byOrder (cmp k (e .key)) (There i) (nextFrom (i + 1) k es) (nextFrom (i + 1) k es)
 
-unfoldable pub nextIn : List ℕ → List Entry → Place
+unfoldable pub nextIn : List ℕ → List Entry → EntryPlace
 nextIn k es = nextFrom 0 k es
 
 -- "or below": the place of the last that is below k; p is the last one seen so far
-unfoldable pub previousFrom : Place → ℕ → List ℕ → List Entry → Place
+unfoldable pub previousFrom : EntryPlace → ℕ → List ℕ → List Entry → EntryPlace
 previousFrom p i k [] = p
 previousFrom p i k (e ∷ es) = byOrder (cmp k (e .key)) (previousFrom p (i + 1) k es) (previousFrom p (i + 1) k es) (previousFrom (There i) (i + 1) k es)
 
-unfoldable pub previousIn : List ℕ → List Entry → Place
+unfoldable pub previousIn : List ℕ → List Entry → EntryPlace
 previousIn k es = previousFrom Nothing 0 k es
 
 -- a part's bytes in the store, and the entry that parts show
-abbrev pub partOf : List ℕ → Part → List ℕ
+abbrev pub partOf : List ℕ → EntryPart → List ℕ
 partOf l p = take (p .len) (drop (p .start) l)
 
 abbrev pub entryOf : List ℕ → Parts → Entry
 entryOf l p = entry (partOf l (p .key)) (partOf l (p .version)) (partOf l (p .tag)) (partOf l (p .value)) (p .algorithm)
 
-abbrev pub noPart : Part
+abbrev pub noPart : EntryPart
 noPart = record { start = 0; len = 0 }
 
 abbrev pub noParts : Parts
@@ -107,7 +107,7 @@ removeEntry k [] = []
 removeEntry k (x ∷ xs) = byOrder (cmp k (x .key)) (x ∷ xs) xs (x ∷ removeEntry k xs)
 
 -- there is room where the key is known, and where a block is blank
-unfoldable pub roomy : Found → ℕ → ℕ → Bool
+unfoldable pub roomy : KeyPlace → ℕ → ℕ → Bool
 roomy (At i) used n = true
 roomy (Gap i) used n = ltb used n
 
@@ -127,7 +127,7 @@ whenStored Unfit a b = b
 unfoldable pub putStore : List ℕ → Entry → List ℕ
 putStore l e = whenStored (putAnswer l e) (bytesOf (blocksIn l) (putEntry e (entriesOf l))) l
 
-unfoldable pub deleteOf : Found → DeleteAnswer
+unfoldable pub deleteOf : KeyPlace → DeleteAnswer
 deleteOf (At i) = Deleted
 deleteOf (Gap i) = Missing
 

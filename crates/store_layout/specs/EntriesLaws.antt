@@ -10,9 +10,9 @@ use Rattle.store_block.specs.Order.{cmp, Below}
 use Rattle.store_block.specs.OrderLaws.{cmp-equal, cmp-flip, below-trans}
 use Rattle.store_block.specs.Flip.{flip}
 use Rattle.store_block.specs.Entry.{Entry, Fit}
-use Rattle.store_layout.specs.declared.Found.the-variants.{At, Gap}
-use Rattle.store_layout.specs.declared.Place.{Place}
-use Rattle.store_layout.specs.declared.Place.the-variants.{There, Nothing}
+use Rattle.store_layout.specs.declared.KeyPlace.the-variants.{At, Gap}
+use Rattle.store_layout.specs.declared.EntryPlace.{EntryPlace}
+use Rattle.store_layout.specs.declared.EntryPlace.the-variants.{There, Nothing}
 use Rattle.store_layout.specs.Store.{AllFit, none, more, Above, Sorted}
 use Rattle.store_layout.specs.Entries.{byOrder, findFrom, placeOf, pastOf, below, upTo, nextFrom, previousFrom, putEntry, removeEntry}
 use Rattle.store_layout.specs.Places.{InGap, IsAt}
@@ -279,7 +279,7 @@ next-none j k (x ∷ xs) s h = go (λ p. next-none (j + 1) k xs (s .1) p)
         let m : upTo k (x ∷ xs) ≡ 1 + upTo k xs = is-less _ _ _ _ (turned k (x .key) Greater q) in
         is-greater _ _ _ _ q ∙ ih (omega arith))
 
-pub previous-none : (p : Place) (j : ℕ) (k : List ℕ) (es : List Entry) → below k es ≡ 0 → previousFrom p j k es ≡ p
+pub previous-none : (p : EntryPlace) (j : ℕ) (k : List ℕ) (es : List Entry) → below k es ≡ 0 → previousFrom p j k es ≡ p
 unfolding previousFrom below
 previous-none p j k [] h = refl
 previous-none p j k (x ∷ xs) h = go (λ q. previous-none p (j + 1) k xs q)
@@ -297,7 +297,7 @@ previous-none p j k (x ∷ xs) h = go (λ q. previous-none p (j + 1) k xs q)
         let m : below k (x ∷ xs) ≡ 1 + below k xs = is-less _ _ _ _ (turned k (x .key) Greater q) in
         absurd (omega arith))
 
-pub previous-there : (p : Place) (j c : ℕ) (k : List ℕ) (es : List Entry) → Sorted es → below k es ≡ suc c → previousFrom p j k es ≡ There (j + c)
+pub previous-there : (p : EntryPlace) (j c : ℕ) (k : List ℕ) (es : List Entry) → Sorted es → below k es ≡ suc c → previousFrom p j k es ≡ There (j + c)
 unfolding previousFrom below
 previous-there p j c k [] s h = absurd (omega arith)
 previous-there p j zero k (x ∷ xs) s h =

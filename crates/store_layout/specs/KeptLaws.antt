@@ -9,8 +9,8 @@ use borrow.Author.Tests.{ltb-true}
 use Rattle.store_block.specs.Entry.{Entry, Fit}
 use Rattle.store_block.specs.Block.{fitTest}
 use Rattle.store_block.specs.DecidesLaws.{agree, says-yes, fit-decides}
-use Rattle.store_layout.specs.declared.Found.{Found}
-use Rattle.store_layout.specs.declared.Found.the-variants.{At, Gap}
+use Rattle.store_layout.specs.declared.KeyPlace.{KeyPlace}
+use Rattle.store_layout.specs.declared.KeyPlace.the-variants.{At, Gap}
 use Rattle.store_layout.specs.declared.PutAnswer.{PutAnswer}
 use Rattle.store_layout.specs.declared.PutAnswer.the-variants.{Stored, Full, Unfit}
 use Rattle.store_layout.specs.Store.{blocksIn, blocks, bytesOf, entriesOf, Good, none}
@@ -47,7 +47,7 @@ put-room : (l : List ℕ) (e : Entry) → hasRoom l e ≡ true → length (putEn
 unfolding hasRoom roomy findIn
 put-room l e h = go (findIn (e .key) (entriesOf l)) refl
   where
-    go : (o : Found) → findIn (e .key) (entriesOf l) ≡ o → length (putEntry e (entriesOf l)) ≤ blocksIn l
+    go : (o : KeyPlace) → findIn (e .key) (entriesOf l) ≡ o → length (putEntry e (entriesOf l)) ≤ blocksIn l
     go (At i) q =
         let r = is-at 0 i e (entriesOf l) q in
         let w = r .within in
@@ -60,7 +60,7 @@ put-room l e h = go (findIn (e .key) (entriesOf l)) refl
         let w = r .within in
         let m : length (insertAt (r .off) e (entriesOf l)) ≡ suc (length (entriesOf l)) = simp (length-append, length-take, length-drop) (omega arith) in
         let p = ap length (r .put) ∙ m in
-        let k = ltb-true (length (entriesOf l)) (blocksIn l) (sym (ap (λ (o : Found). roomy o (length (entriesOf l)) (blocksIn l)) q) ∙ h) in
+        let k = ltb-true (length (entriesOf l)) (blocksIn l) (sym (ap (λ (o : KeyPlace). roomy o (length (entriesOf l)) (blocksIn l)) q) ∙ h) in
         omega arith
 
 module _ (l : List ℕ) (g : Good l) where

@@ -11,7 +11,7 @@ use Rattle.store_block.specs.Order.{cmp}
 use Rattle.store_block.specs.OrderLaws.{cmp-refl, cmp-equal, cmp-flip, below-trans}
 use Rattle.store_block.specs.Flip.{flip}
 use Rattle.store_block.specs.Entry.{Entry, noEntry}
-use Rattle.store_layout.specs.declared.Found.the-variants.{At, Gap}
+use Rattle.store_layout.specs.declared.KeyPlace.the-variants.{At, Gap}
 use Rattle.store_layout.specs.Store.{Above, Sorted}
 use Rattle.store_layout.specs.Entries.{byOrder, findFrom, findIn, putEntry, removeEntry}
 use Rattle.store_layout.specs.EntriesLaws.{above-next}

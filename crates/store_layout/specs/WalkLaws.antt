@@ -7,7 +7,7 @@ use lib.ListN.{length, take, drop, getD}
 use lib.Seq.{getD-drop, drop-drop}
 use Rattle.store_block.specs.Order.{cmp}
 use Rattle.store_block.specs.Block.{decode}
-use Rattle.store_layout.specs.declared.Found.the-variants.{At, Gap}
+use Rattle.store_layout.specs.declared.KeyPlace.the-variants.{At, Gap}
 use Rattle.store_layout.specs.Store.{entriesFrom}
 use Rattle.store_layout.specs.Entries.{byOrder, findFrom}
 use Rattle.store_layout.specs.StoreLaws.{from-blank, from-used}

@@ -5,27 +5,28 @@ ghost use Rattle.store_layout.specs.Store.{sizeGood, entriesOf, Good};
 use store_block::offsets::BLOCK_BYTES;
 
 // Where a key stands, or would stand.
-pub enum Found {
+pub enum KeyPlace {
     At(usize),
     Gap(usize),
 }
 
-pub enum Place {
+// Where an entry stands, if there is one.
+pub enum EntryPlace {
     There(usize),
     Nothing,
 }
 
 // Where a part of an entry lies in the store.
-pub struct Part {
+pub struct EntryPart {
     pub start: usize,
     pub len: usize,
 }
 
 pub struct Parts {
-    pub key: Part,
-    pub version: Part,
-    pub tag: Part,
-    pub value: Part,
+    pub key: EntryPart,
+    pub version: EntryPart,
+    pub tag: EntryPart,
+    pub value: EntryPart,
     pub algorithm: u8,
 }
 

@@ -1,3 +1,2 @@
 pub mod Local
-pub mod ValueAt
 pub mod LocalLaws

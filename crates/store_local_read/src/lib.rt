@@ -1,7 +1,13 @@
-use store_layout::Found;
+// The local read of a lent store.
+use store_block::offsets::BLOCK_BYTES;
+use store_block::offsets::VALUE;
+use store_layout::KeyPlace;
 ghost use mathlib.Core.Path.{_≡_};
-ghost use Rattle.store_local_read.specs.Local.{LocalIs, valueOf, localOf};
-ghost use Rattle.store_local_read.specs.ValueAt.{ValueAt};
+ghost use Prim.Native.Nat.{_+_, _*_, _<_};
+ghost use lib.ListN.{length, getD};
+ghost use Rattle.store_block.specs.Entry.{noEntry};
+ghost use Rattle.store_layout.specs.Store.{blocksIn, entriesOf, Good};
+ghost use Rattle.store_local_read.specs.Local.{answerOf, localOf, partOf};
 
 // What a local read finds: the value's place in the store, nothing, or refusal 2.
 pub enum Local {
@@ -12,32 +18,33 @@ pub enum Local {
 
 // Says where the value under a key lies in the store.
 pub fn local_find(store: &[u8], key: &[u8]) -> Local
-    ensures { λ r. ⌜ LocalIs (now (store .entry)) (now (key .entry)) r ⌝ }
+    ensures { λ r. ⌜ answerOf r ≡ localOf (now (store .entry)) (now (key .entry)) ⌝ }
 {
     if !store_check::check(store) {
         return Local::StoreBad;
     }
     match store_find::find(store, key) {
-        Found::At(i) => value_at(store, i),
-        Found::Gap(_) => Local::NotFound,
+        KeyPlace::At(i) => value_at(store, i),
+        KeyPlace::Gap(_) => Local::NotFound,
     }
 }
 
-// The value of the entry at a place.
+// The value of the entry at a place: its block's bytes from 120 on.
 fn value_at(store: &[u8], i: usize) -> Local
-    ensures { λ r. ⌜ ValueAt (now (store .entry)) i r ⌝ }
+    requires { ⌜ Good (now store) × (i < blocksIn (now store)) ⌝ }
+    ensures { λ r. ⌜ r ≡ Local.Value (i * 512 + 120) (length (getD (entriesOf (now (store .entry))) i noEntry .value)) ⌝ }
 {
     let parts = store_find::entry_at(store, i);
     let value = parts.value;
     Local::Value {
-        start: value.start,
+        start: i * BLOCK_BYTES + VALUE,
         len: value.len,
     }
 }
 
 // The value under a key as a part of the lent store; empty where there is none, or the store is bad.
 pub fn local_read<'a>(store: &'a [u8], key: &[u8]) -> &'a [u8]
-    ensures { λ r. ⌜ now r ≡ valueOf (localOf (now (store .entry)) (now (key .entry))) ⌝ }
+    ensures { λ r. ⌜ now r ≡ partOf (now (store .entry)) (localOf (now (store .entry)) (now (key .entry))) ⌝ }
 {
     match local_find(store, key) {
         Local::Value { start, len } => {

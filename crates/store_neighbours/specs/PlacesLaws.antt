@@ -8,19 +8,19 @@ use lib.Dec.{eqb}
 use lib.ListN.{length, getD}
 use borrow.Author.Tests.{eqb-true, eqb-false}
 use Rattle.store_block.specs.Decides.{Decides}
-use Rattle.store_layout.specs.declared.Found.{Found}
-use Rattle.store_layout.specs.declared.Place.the-variants.{There, Nothing}
+use Rattle.store_layout.specs.declared.KeyPlace.{KeyPlace}
+use Rattle.store_layout.specs.declared.EntryPlace.the-variants.{There, Nothing}
 use Rattle.store_layout.specs.Store.{blocksIn, entriesOf, Good}
 use Rattle.store_layout.specs.Entries.{findIn, placeOf, pastOf, Sought, below, upTo, nextIn, previousIn}
 use Rattle.store_layout.specs.StoreLaws.{used-at, blank-at}
 use Rattle.store_layout.specs.EntriesLaws.{find-below, find-upTo, next-there, next-none, previous-there, previous-none}
 
 module _ (l k : List ℕ) where
-  pub from-place : (r : Found) → Sought l k r → Good l → placeOf r ≡ below k (entriesOf l)
+  pub from-place : (r : KeyPlace) → Sought l k r → Good l → placeOf r ≡ below k (entriesOf l)
   unfolding findIn
   from-place r s g = ap placeOf (s .same g) ∙ find-below 0 k (entriesOf l) (g .sorted) ∙ (let z : 0 + below k (entriesOf l) ≡ below k (entriesOf l) = omega arith in z)
 
-  pub above-place : (r : Found) → Sought l k r → Good l → pastOf r ≡ upTo k (entriesOf l)
+  pub above-place : (r : KeyPlace) → Sought l k r → Good l → pastOf r ≡ upTo k (entriesOf l)
   unfolding findIn
   above-place r s g = ap pastOf (s .same g) ∙ find-upTo 0 k (entriesOf l) (g .sorted) ∙ (let z : 0 + upTo k (entriesOf l) ≡ upTo k (entriesOf l) = omega arith in z)
 

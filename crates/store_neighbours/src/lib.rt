@@ -7,16 +7,16 @@ ghost use Rattle.store_layout.specs.Store.{entriesOf, Good};
 ghost use Rattle.store_layout.specs.Entries.{below, upTo, nextIn, previousIn};
 use store_block::offsets::BLOCK_BYTES;
 use store_find::find;
-use store_layout::Found;
-use store_layout::Place;
+use store_layout::EntryPlace;
+use store_layout::KeyPlace;
 
 // The first place at or above a bound: how many keys are strictly below it.
 pub fn first_from(store: &[u8], bound: &[u8]) -> usize
     ensures { λ r. ⌜ (Good (now (store .entry)) → r ≡ below (now (bound .entry)) (entriesOf (now (store .entry)))) ⌝ }
 {
     match find(store, bound) {
-        Found::At(i) => i,
-        Found::Gap(i) => i,
+        KeyPlace::At(i) => i,
+        KeyPlace::Gap(i) => i,
     }
 }
 
@@ -25,8 +25,8 @@ pub fn first_above(store: &[u8], bound: &[u8]) -> usize
     ensures { λ r. ⌜ (Good (now (store .entry)) → r ≡ upTo (now (bound .entry)) (entriesOf (now (store .entry)))) ⌝ }
 {
     match find(store, bound) {
-        Found::At(i) => i + 1,
-        Found::Gap(i) => i,
+        KeyPlace::At(i) => i + 1,
+        KeyPlace::Gap(i) => i,
     }
 }
 
@@ -42,23 +42,23 @@ pub fn has(store: &[u8], i: usize) -> bool
 }
 
 // The nearest key strictly above.
-pub fn next(store: &[u8], key: &[u8]) -> Place
+pub fn next(store: &[u8], key: &[u8]) -> EntryPlace
     ensures { λ r. ⌜ (Good (now (store .entry)) → r ≡ nextIn (now (key .entry)) (entriesOf (now (store .entry)))) ⌝ }
 {
     let i = first_above(store, key);
     if has(store, i) {
-        return Place::There(i);
+        return EntryPlace::There(i);
     }
-    Place::Nothing
+    EntryPlace::Nothing
 }
 
 // The nearest key strictly below.
-pub fn previous(store: &[u8], key: &[u8]) -> Place
+pub fn previous(store: &[u8], key: &[u8]) -> EntryPlace
     ensures { λ r. ⌜ (Good (now (store .entry)) → r ≡ previousIn (now (key .entry)) (entriesOf (now (store .entry)))) ⌝ }
 {
     let i = first_from(store, key);
     if 0 < i {
-        return Place::There(i - 1);
+        return EntryPlace::There(i - 1);
     }
-    Place::Nothing
+    EntryPlace::Nothing
 }

@@ -11,8 +11,8 @@ use Rattle.store_block.specs.Order.{cmp, Below}
 use Rattle.store_block.specs.OrderLaws.{cmp-refl, cmp-equal, cmp-flip, below-trans}
 use Rattle.store_block.specs.Flip.{flip}
 use Rattle.store_block.specs.Entry.{Entry, noEntry}
-use Rattle.store_layout.specs.declared.Found.{Found}
-use Rattle.store_layout.specs.declared.Found.the-variants.{At, Gap}
+use Rattle.store_layout.specs.declared.KeyPlace.{KeyPlace}
+use Rattle.store_layout.specs.declared.KeyPlace.the-variants.{At, Gap}
 use Rattle.store_layout.specs.Store.{Above, Sorted}
 use Rattle.store_layout.specs.Entries.{byOrder, findFrom, findIn, placeOf, pastOf}
 use Rattle.store_layout.specs.CheckLaws.{less-not-equal}
@@ -24,7 +24,7 @@ pub between-all : (k : List ℕ) (es : List Entry) → Sorted es → Between (fi
 unfolding findIn
 between-all k es s = let a = find-upTo 0 k es s in let b = upTo-most k es in record { low = omega arith; high = omega arith }
 
-pub gap-left : (f : Found) (lo hi : ℕ) → hi ≤ lo → Between f lo hi → Gap lo ≡ f
+pub gap-left : (f : KeyPlace) (lo hi : ℕ) → hi ≤ lo → Between f lo hi → Gap lo ≡ f
 unfolding placeOf pastOf
 gap-left (At i) lo hi h b = let x = b .low in let y = b .high in absurd (omega arith)
 gap-left (Gap i) lo hi h b = let x = b .low in let y = b .high in ap Gap (let z : lo ≡ i = omega arith in z)

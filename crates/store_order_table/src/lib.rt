@@ -11,10 +11,10 @@ use base_integers::as_usize::wide;
 use store_block::Order;
 use store_block::offsets::BLOCK_BYTES;
 use store_block::offsets::KEY;
-use store_layout::Found;
+use store_layout::KeyPlace;
 
 // The place of a key in a table, or where it would go: each turn leaves at most half of the places.
-pub fn find(store: &[u8], order: &[u8], key: &[u8]) -> Found
+pub fn find(store: &[u8], order: &[u8], key: &[u8]) -> KeyPlace
     requires { ⌜ Names (now store) (now order) × Sorted (entriesAt (now store) (now order)) ⌝ }
     ensures { λ r. ⌜ r ≡ findIn (now (key .entry)) (entriesAt (now (store .entry)) (now (order .entry))) ⌝ }
 {
@@ -27,11 +27,11 @@ pub fn find(store: &[u8], order: &[u8], key: &[u8]) -> Found
         let e = s + wide(store[a + 1]);
         match store_block::compare(key, &store[s..e]) {
             Order::Less => hi = m,
-            Order::Equal => return Found::At(m),
+            Order::Equal => return KeyPlace::At(m),
             Order::Greater => lo = m + 1,
         }
     }
-    Found::Gap(lo)
+    KeyPlace::Gap(lo)
 }
 
 // Puts the number x in at place p; the others up to the place `used` move up.

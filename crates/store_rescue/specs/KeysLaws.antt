@@ -8,8 +8,8 @@ use Rattle.store_block.specs.declared.Order.the-variants.{Less, Equal, Greater}
 use Rattle.store_block.specs.Order.{cmp}
 use Rattle.store_block.specs.Block.{isEqual}
 use Rattle.store_block.specs.Entry.{Entry}
-use Rattle.store_layout.specs.declared.Found.{Found}
-use Rattle.store_layout.specs.declared.Found.the-variants.{At, Gap}
+use Rattle.store_layout.specs.declared.KeyPlace.{KeyPlace}
+use Rattle.store_layout.specs.declared.KeyPlace.the-variants.{At, Gap}
 use Rattle.store_layout.specs.Store.{Above, Sorted}
 use Rattle.store_layout.specs.Entries.{byOrder, findFrom, findIn}
 use Rattle.store_layout.specs.EntriesLaws.{above-next}
@@ -22,7 +22,7 @@ none-above k [] a s = refl
 none-above k (x ∷ xs) a s = ap (λ (o : Order). cond (isEqual o) true (hasKey k xs)) a ∙ none-above k xs (above-next k x xs a (s .0)) (s .1)
 
 -- what a search found of a key
-unfoldable isAt : Found → Bool
+unfoldable isAt : KeyPlace → Bool
 isAt (At i) = true
 isAt (Gap i) = false
 

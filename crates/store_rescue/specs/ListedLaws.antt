@@ -14,7 +14,7 @@ use Rattle.store_block.specs.Block.{decode, BlockGood}
 use Rattle.store_block.specs.BlockLaws.{sized, decode-block}
 use Rattle.store_block.specs.Over.{over}
 use Rattle.store_block.specs.OverLaws.{length-over}
-use Rattle.store_layout.specs.declared.Found.the-variants.{At, Gap}
+use Rattle.store_layout.specs.declared.KeyPlace.the-variants.{At, Gap}
 use Rattle.store_layout.specs.Store.{Sorted}
 use Rattle.store_layout.specs.Entries.{findIn, findFrom, putEntry}
 use Rattle.store_layout.specs.Splices.{insertAt}

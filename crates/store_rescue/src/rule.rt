@@ -2,7 +2,7 @@
 use crate::state::BlockState;
 use store_block::offsets::BLOCK_BYTES;
 use store_block::offsets::KEY;
-use store_layout::Found;
+use store_layout::KeyPlace;
 ghost use Rattle.store_block.specs.Block.{BlockGood};
 ghost use Rattle.store_order_table.specs.Table.{blockAt};
 ghost use Rattle.store_rescue.specs.Listed.{Listed, Next, Judged};
@@ -28,8 +28,8 @@ fn keep(store: &[u8], order: &mut [u8], kept: usize, i: usize) -> Step
     let s = a + KEY;
     let e = s + base_integers::as_usize::wide(store[a + 1]);
     match store_order_table::find(store, &order[0..kept], &store[s..e]) {
-        Found::At(_) => Step { byte: 4, kept },
-        Found::Gap(p) => {
+        KeyPlace::At(_) => Step { byte: 4, kept },
+        KeyPlace::Gap(p) => {
             store_order_table::insert(order, kept, p, i as u8);
             Step {
                 byte: 1,

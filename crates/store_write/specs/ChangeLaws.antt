@@ -11,8 +11,8 @@ use Rattle.store_block.specs.Entry.{Entry, entry, Fit}
 use Rattle.store_block.specs.Block.{block, decode, BlockGood, fitTest}
 use Rattle.store_block.specs.DecidesLaws.{agree, says-yes, says-no, fit-decides}
 use Rattle.store_block.specs.Over.{over}
-use Rattle.store_layout.specs.declared.Found.{Found}
-use Rattle.store_layout.specs.declared.Found.the-variants.{At, Gap}
+use Rattle.store_layout.specs.declared.KeyPlace.{KeyPlace}
+use Rattle.store_layout.specs.declared.KeyPlace.the-variants.{At, Gap}
 use Rattle.store_layout.specs.declared.PutAnswer.{PutAnswer}
 use Rattle.store_layout.specs.declared.PutAnswer.the-variants.{Stored, Full, Unfit}
 use Rattle.store_layout.specs.declared.DeleteAnswer.the-variants.{Deleted, Missing}
@@ -87,7 +87,7 @@ module _ (l : List ℕ) (g : Good l) where
         let r = is-at 0 i e es (sym q) in
         let off : r .off ≡ i = let z = r .place in omega arith in
         let p = r .put in
-        let a : putAnswer l e ≡ Stored = stored-answer Stored f (ap (λ (o : Found). cond (roomy o (length es) n) Stored Full) (sym q)) in (
+        let a : putAnswer l e ≡ Stored = stored-answer Stored f (ap (λ (o : KeyPlace). cond (roomy o (length es) n) Stored Full) (sym q)) in (
           sym a,
           ap (λ (x : List ℕ). over x (i * 512) (block e)) (g .same)
               ∙ replace-bytes es n i (g .fit) (room l) e f (at-low i q)
@@ -103,7 +103,7 @@ module _ (l : List ℕ) (g : Good l) where
         let r = in-gap 0 i e es (sym q) in
         let off : r .off ≡ i = let z = r .place in omega arith in
         let same : insertAt i e es ≡ putEntry e es = ap (λ (d : ℕ). insertAt d e es) (sym off) ∙ sym (r .put) in
-        let a : putAnswer l e ≡ cond (ltb (length es) n) Stored Full = stored-answer _ f (ap (λ (o : Found). cond (roomy o (length es) n) Stored Full) (sym q)) in
+        let a : putAnswer l e ≡ cond (ltb (length es) n) Stored Full = stored-answer _ f (ap (λ (o : KeyPlace). cond (roomy o (length es) n) Stored Full) (sym q)) in
         (sym a, ap (λ (xs : List Entry). cond (ltb (length es) n) (bytesOf n xs) l) same ∙ picked (ltb (length es) n) ∙ sym (stored-bytes _ a))
       where
         picked : (b : Bool) → cond b (bytesOf (blocksIn l) (putEntry e (entriesOf l))) l ≡ whenStored (cond b Stored Full) (bytesOf (blocksIn l) (putEntry e (entriesOf l))) l

@@ -9,7 +9,7 @@ ghost use Rattle.store_layout.specs.Entries.{deleteAnswer, deleteStore};
 use store_block::offsets::BLOCK_BYTES;
 use store_find::find;
 use store_layout::DeleteAnswer;
-use store_layout::Found;
+use store_layout::KeyPlace;
 use store_layout::count;
 
 // Moves the bytes that stand a block above a up to e down to there.
@@ -42,10 +42,10 @@ pub fn delete(store: &mut [u8], key: &[u8]) -> DeleteAnswer
     ensures { λ r. ⌜ now (store .exit) ≡ deleteStore (now (store .entry)) (now (key .entry)) ⌝ }
 {
     match find(store, key) {
-        Found::At(i) => {
+        KeyPlace::At(i) => {
             remove(store, i);
             DeleteAnswer::Deleted
         }
-        Found::Gap(_) => DeleteAnswer::Missing,
+        KeyPlace::Gap(_) => DeleteAnswer::Missing,
     }
 }

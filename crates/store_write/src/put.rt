@@ -10,7 +10,7 @@ ghost use Rattle.store_layout.specs.Entries.{putAnswer, putStore};
 ghost use Rattle.store_write.specs.Change.{insertAnswer, insertStore};
 use store_block::offsets::BLOCK_BYTES;
 use store_find::find;
-use store_layout::Found;
+use store_layout::KeyPlace;
 use store_layout::PutAnswer;
 use store_layout::count;
 
@@ -61,11 +61,11 @@ pub fn put(
         return PutAnswer::Unfit;
     }
     match find(store, key) {
-        Found::At(i) => {
+        KeyPlace::At(i) => {
             let a = i * BLOCK_BYTES;
             store_block::copy(store, a, &b);
             PutAnswer::Stored
         }
-        Found::Gap(i) => insert(store, i, &b),
+        KeyPlace::Gap(i) => insert(store, i, &b),
     }
 }

@@ -1,3 +1,7 @@
+use Prim.Native.Nat.{ℕ}
+use mathlib.Core.Path.{ap, _∙_}
+use denote.Ref.{now}
+use Rattle.base_integers.specs.SignedLaws.{word-kept}
 use Rattle.access_table_write.specs.Write.{putAcl}
 use borrow.Author.Needs.{needs}
 use Rattle.access_acl_write.proofs.add_acl.Statement.{statement}
@@ -23,7 +27,11 @@ put-acl-requires c κs = search needs
 
 returns : tie.Need-returns
 unfolding putAcl
-returns c = c .put-acl .ensures .same
+returns c =
+    let s = c .before .before .before in
+    let i = s .args .place in
+    c .put-acl .ensures .same
+    ∙ ap (λ (w : ℕ). putAcl (now (s .args .device)) i w (now (s .args .key))) (word-kept (s .args .identity) (s .fits .identity .sfits))
 
 pub add-acl-spec : {M : Type 1} → statement M
 add-acl-spec =

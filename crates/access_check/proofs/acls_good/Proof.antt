@@ -1,8 +1,10 @@
 use Prim.Native.Nat.{ℕ, _+_, _*_, _-_, _≤_}
 use mathlib.Core.Path.{_≡_, _∙_, sym, refl, ap}
 use borrow.Author.Tests.{not-true, not-false}
+use Rattle.base_integers.specs.SignedLaws.{word-kept}
 use Rattle.access_record.specs.Table.{aclsGood, isNobody, findFrom}
 use Rattle.access_record.specs.Record.{aclsAt, wordAt}
+use Rattle.base_integers.specs.SignedLaws.{word-kept}
 use Rattle.access_record.specs.TableLaws.{stops, goes, acls-test, acls-end}
 use Rattle.access_record.specs.Places.{others}
 use borrow.Author.Needs.{needs}
@@ -29,7 +31,7 @@ alone : (c : tie.After-find-from Inv-loop μ-loop)
     → isNobody (findFrom 0 (wordAt (AtLoop c .before .args .device .now) (AtLoop c .loop .at)) (aclsAt (AtLoop c .before .args .device .now) (AtLoop c .loop .at + 368) (AtLoop c .loop .left - 1)))
     ≡ isNobody (c .find-from .result)
 alone c =
-    ap (λ (w : ℕ). isNobody (findFrom 0 w (aclsAt (AtLoop c .before .args .device .now) (AtLoop c .loop .at + 368) (AtLoop c .loop .left - 1)))) (sym (c .before .word-at .ensures))
+    ap (λ (w : ℕ). isNobody (findFrom 0 w (aclsAt (AtLoop c .before .args .device .now) (AtLoop c .loop .at + 368) (AtLoop c .loop .left - 1)))) (sym (word-kept (c .before .signed-at .result) (c .before .signed-at .ok) ∙ c .before .signed-at .ensures))
     ∙ ap isNobody (sym (c .find-from .ensures))
 
 loop-holds : tie.Need-loop-holds Inv-loop μ-loop
@@ -43,8 +45,8 @@ returns c =
     stops _ (acls-test _ _ _ (c .before .before .loop-test .taken)) (c .before .before .before .loop .inv .1)
     (sym (c .before .acl-good .ensures) ∙ not-true _ (c .if1 .taken))
 
-word-at-requires : tie.Need-word-at-requires Inv-loop μ-loop
-word-at-requires c κs = search needs
+signed-at-requires : tie.Need-signed-at-requires Inv-loop μ-loop
+signed-at-requires c κs = search needs
 
 add-at : tie.Need-add-at Inv-loop μ-loop
 add-at c = search needs
@@ -82,7 +84,7 @@ acls-good-spec =
     loop-holds
     acl-good-requires
     returns
-    word-at-requires
+    signed-at-requires
     add-at
     sub-left
     find-from-requires

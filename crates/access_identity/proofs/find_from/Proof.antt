@@ -17,12 +17,12 @@ abbrev μ-loop : tie.MeasureT-loop
 loop-holds : tie.Need-loop-holds Inv-loop μ-loop
 loop-holds c = (search needs, search needs, refl)
 
-word-at-requires : tie.Need-word-at-requires Inv-loop μ-loop
-word-at-requires c κs = search needs
+signed-at-requires : tie.Need-signed-at-requires Inv-loop μ-loop
+signed-at-requires c κs = search needs
 
 returns : tie.Need-returns Inv-loop μ-loop
 returns c =
-    sym (find-yes _ _ _ _ _ (c .before .before .loop-test .taken) (sym (c .before .word-at .ensures) ∙ c .if1 .taken))
+    sym (find-yes _ _ _ _ _ (c .before .before .loop-test .taken) (sym (c .before .signed-at .ensures) ∙ c .if1 .taken))
     ∙ c .before .before .before .loop .inv .2
 
 add-at : tie.Need-add-at Inv-loop μ-loop
@@ -41,7 +41,7 @@ loop-again : tie.Need-loop-again Inv-loop μ-loop
 loop-again c = (
   omega arith,
   omega arith,
-  sym (find-no _ _ _ _ _ (c .before .before .loop-test .taken) (λ e. c .if1 .left (c .before .word-at .ensures ∙ e)))
+  sym (find-no _ _ _ _ _ (c .before .before .loop-test .taken) (λ e. c .if1 .left (c .before .signed-at .ensures ∙ e)))
       ∙ c .before .before .before .loop .inv .2,
 )
 
@@ -55,7 +55,7 @@ find-from-spec =
     Inv-loop
     μ-loop
     loop-holds
-    word-at-requires
+    signed-at-requires
     returns
     add-at
     sub-left

@@ -1,8 +1,10 @@
 use Prim.Native.Nat.{ℕ}
-use mathlib.Core.Path.{_∙_, ap}
+use mathlib.Core.Path.{_∙_, ap₂}
 use native.Mathlib.Omega.{arith}
+use Rattle.base_integers.specs.SignedLaws.{word-kept}
 use Rattle.access_record.specs.Table.{findFrom, placeOf}
 use Rattle.access_record.specs.Record.{aclsAt, tableOf}
+use Rattle.base_integers.specs.SignedLaws.{word-kept}
 use Rattle.access_record.specs.TableLaws.{table-count}
 use borrow.Author.Needs.{needs}
 use Rattle.access_identity.proofs.find_identity.Statement.{statement}
@@ -20,8 +22,9 @@ find-from-requires c κs = let e = c .wide .ensures .0 in let h = table-count _ 
 returns : tie.Need-returns
 unfolding placeOf tableOf
 returns c =
+    let s = c .before .before .before in
     c .find-from .ensures
-    ∙ ap (λ (n : ℕ). findFrom 0 (c .before .before .before .args .identity) (aclsAt (c .before .before .before .args .device .now) 16 n)) (c .before .wide .ensures .0)
+    ∙ ap₂ (λ (w n : ℕ). findFrom 0 w (aclsAt (s .args .device .now) 16 n)) (word-kept (s .args .identity) (s .fits .identity .sfits)) (c .before .wide .ensures .0)
 
 pub find-identity-spec : {M : Type 1} → statement M
 find-identity-spec = tie.close (tie.spec element-copy-out-wide wide-requires find-from-requires returns)

@@ -3,8 +3,11 @@ use mathlib.Core.Path.{_≡_, sym, ap, _∙_}
 use mathlib.Core.Bool.{true}
 use Prim.Native.Nat.{_^_, _<_}
 use native.Mathlib.Omega.{arith}
+use lib.IntN.{ℤ, pos, negsuc}
+use lib.Signed.{mag}
 use lib.ListN.{length}
 use borrow.Author.Tests.{lt-ltb, le-ltb, not-true, not-false}
+use Rattle.base_integers.specs.Signed.{wordOf}
 use Rattle.store_layout.specs.Store.{storeGood}
 use Rattle.store_layout.specs.CheckLaws.{store-decides}
 use Rattle.access_record.specs.Table.{tableGood}
@@ -22,8 +25,12 @@ use Rattle.device.proofs.answer.Tie as tie
 abbrev state : tie.Start → State
 state z = lent (now (z .args .store)) (now (z .args .device)) (now (z .args .readings)) (connectionOf (z .args .connection))
 
-word : (z : tie.Start) → z .args .connection .number < 2 ^ 64
-word z = omega arith
+below : (x : ℤ) → mag x < 2 ^ 63 → wordOf x < 2 ^ 64
+below (pos n) h = omega (arith, h)
+below (negsuc n) h = omega arith
+
+word : (z : tie.Start) → wordOf (z .args .connection .number) < 2 ^ 64
+word z = below (z .args .connection .number) (z .good .1 .1 .1 .0 .1 .1 .0 .1)
 
 sound : (c : tie.Else2) → storeGood (now (c .before .before .before .before .before .before .before .before .args .store)) ≡ true
 sound c = sym (c .before .check .ensures) ∙ not-false _ (c .if2 .left)

@@ -1,11 +1,12 @@
-use mathlib.Core.Path.{refl}
+use mathlib.Core.Path.{refl, sym, ap, _∙_}
 use denote.Ref.{now}
 use Rattle.access_record.specs.Table.{Acl, aclOf}
 use Rattle.access_record.specs.Record.{tableOf}
-use Rattle.protocol.specs.declared.Operation.{Operation}
+use Rattle.protocol.specs.declared.Choice.{Choice}
 use Rattle.protocol.specs.State.{Connection, State, lent}
 use Rattle.protocol.specs.Command.{Body}
 use Rattle.request_command.specs.Views.{bodyView}
+use Rattle.judge_permission.specs.Numbered.{askedNumbered}
 use Rattle.judge_admission.specs.AdmissionLaws.{admitted}
 use Rattle.device_command.proofs.Steps.{not-admitted, done, built, not-built}
 use borrow.Author.Needs.{needs}
@@ -15,8 +16,8 @@ use Rattle.device_command.proofs.admit_and_perform.Tie as tie
 abbrev Z : tie.After-asked → tie.Start
 Z m = m .before .before .before .before .before .before .before .before
 
-abbrev operation : tie.After-asked → Operation
-operation m = m .asked .given .0 .0
+abbrev choice : tie.After-asked → Choice
+choice m = m .asked .given .0 .0
 
 abbrev acl : tie.Start → Acl
 acl z = aclOf (tableOf (now (z .args .device))) (z .args .accepted .sender .acl)
@@ -31,7 +32,7 @@ enum-known-asked : tie.Need-enum-known-asked
 enum-known-asked c = search needs
 
 admit-requires : tie.Need-admit-requires
-admit-requires c κs = let z = Z (c .before .before) in (z .pre .3, z .pre .4)
+admit-requires c κs = let m = c .before .before in let z = Z m in (z .pre .3, z .pre .4, sym (ap askedNumbered (m .asked .given .1)) ∙ z .pre .6)
 
 status-requires : tie.Need-status-requires
 status-requires c κs = let z = Z (c .before .before .before .before .before) in (z .pre .0, z .pre .1)
@@ -47,8 +48,8 @@ returns c =
     let v = now (z .args .value) in
     let a = z .args .accepted in
     λ k t e f. let s = state z k in
-    built s (acl z) (body z) v (a .«reply_to») (now (z .args .signing-key)) _ _ _ (a .asked) t f (operation m) (m .asked .given .1) _
-    (not-admitted s (acl z) (operation m) (body z) v (a .«reply_to») (now (z .args .signing-key)) _ _ _
+    built s (acl z) (body z) v (a .«reply_to») (now (z .args .signing-key)) _ _ _ (a .asked) t f (choice m) (m .asked .given .1) _
+    (not-admitted s (acl z) (choice m) (body z) v (a .«reply_to») (now (z .args .signing-key)) _ _ _
     (a .sender .connection .protected) e (x .admit .result) (x .admit .ensures v refl) (c .before .before .before .before .if1 .taken) (c .before .before .status .ensures s))
 
 perform-requires : tie.Need-perform-requires
@@ -58,7 +59,7 @@ perform-requires c κs =
     let m = x .before .before .before in
     let z = Z m in
     let v = now (z .args .value) in
-    (z .pre .0, z .pre .1, z .pre .2, z .pre .4, admitted (acl z) (z .args .accepted .sender .connection .protected) (operation m) (body z) v (x .admit .ensures v refl) (i .if1 .left), z .pre .5)
+    (z .pre .0, z .pre .1, z .pre .2, z .pre .4, admitted (acl z) (z .args .accepted .sender .connection .protected) (choice m) (body z) v (x .admit .ensures v refl) (i .if1 .left), z .pre .5)
 
 enum-told : tie.Need-enum-told
 enum-told c = search needs
@@ -82,8 +83,8 @@ returns-2 c =
     let v = now (z .args .value) in
     let a = z .args .accepted in
     λ k t e f. let s = state z k in
-    built s (acl z) (body z) v (a .«reply_to») (now (z .args .signing-key)) _ _ _ (a .asked) t f (operation m) (m .asked .given .1) _
-    (done s (acl z) (operation m) (body z) v (a .«reply_to») (now (z .args .signing-key)) _ _ _
+    built s (acl z) (body z) v (a .«reply_to») (now (z .args .signing-key)) _ _ _ (a .asked) t f (choice m) (m .asked .given .1) _
+    (done s (acl z) (choice m) (body z) v (a .«reply_to») (now (z .args .signing-key)) _ _ _
     (a .sender .connection .protected) e (x .admit .result) (x .admit .ensures v refl) (i .if1 .left) _ (p .perform .ensures k))
 
 same-length-4 : tie.Need-same-length-4

@@ -5,6 +5,7 @@ use Prim.Native.Nat.{ℕ}
 use native.Mathlib.Omega.{arith}
 use lib.ListN.{length-take}
 use borrow.Author.Tests.{not-true, not-false}
+use Rattle.base_integers.specs.Signed.{wordOf}
 use Rattle.access_record.specs.Table.{aclOf}
 use Rattle.access_record.specs.Record.{tableOf, Placed}
 use Rattle.access_record.specs.LookupLaws.{found-placed}
@@ -18,7 +19,7 @@ use Rattle.device_message.proofs.verify_sender.Statement.{statement}
 use Rattle.device_message.proofs.verify_sender.Tie as tie
 
 placed : (z : tie.Start) → Placed (now (z .args .device)) (z .args .sender .acl)
-placed z = found-placed (now (z .args .device)) (z .args .sender .identity) (z .args .sender .acl) (z .pre .2) (z .pre .3)
+placed z = found-placed (now (z .args .device)) (wordOf (z .args .sender .identity)) (z .args .sender .acl) (z .pre .2) (z .pre .3)
 
 abbrev state : tie.Start → State
 state z = lent (now (z .args .store)) (now (z .args .device)) (now (z .args .readings)) (connectionOf (z .args .sender .connection))
@@ -48,7 +49,7 @@ returns : tie.Need-returns
 returns c =
     let z = c .before .before .before .before .before .before .before .before .before .before .before .before .before .before in
     let a = z .args in
-    sent-as (wrong-hmac (state z) (now (a .value)) (a .sender .identity) (now (a .digest)) (now (a .command)) (key z) (told (c .before .before .before .before .before) ∙ not-true _ (c .before .before .before .before .if1 .taken)))
+    sent-as (wrong-hmac (state z) (now (a .value)) (wordOf (a .sender .identity)) (now (a .digest)) (now (a .command)) (key z) (told (c .before .before .before .before .before) ∙ not-true _ (c .before .before .before .before .if1 .taken)))
     (c .before .before .close .ensures (now (a .store)) (now (a .device)) (now (a .readings)))
 
 slice-aggregate-copy-key : tie.Need-slice-aggregate-copy-key
@@ -83,8 +84,8 @@ returns-2 : tie.Need-returns-2
 returns-2 c =
     let z = c .before .before .before .before .before .before .before .before .before .before .before .before .before .before .before .before .before .before .before .before .before .before .before in
     let a = z .args in
-    sent-as (right-hmac (state z) (now (a .value)) (a .sender .identity) (now (a .digest)) (now (a .command)) (key z) (told (c .before .before .before .before .before .before .before .before .before .before .before .before .before .before) ∙ not-false _ (c .before .before .before .before .before .before .before .before .before .before .before .before .before .if1 .left)))
-    (sent-by (state z) (now (a .value)) (a .sender .identity) (now (a .command)) (c .before .before .before .before .before .before .before .before .before .before .copy-key .ensures .0) (c .before .before .before .before .answer-command .ensures))
+    sent-as (right-hmac (state z) (now (a .value)) (wordOf (a .sender .identity)) (now (a .digest)) (now (a .command)) (key z) (told (c .before .before .before .before .before .before .before .before .before .before .before .before .before .before) ∙ not-false _ (c .before .before .before .before .before .before .before .before .before .before .before .before .before .if1 .left)))
+    (sent-by (state z) (now (a .value)) (wordOf (a .sender .identity)) (now (a .command)) (c .before .before .before .before .before .before .before .before .before .before .copy-key .ensures .0) (c .before .before .before .before .answer-command .ensures))
 
 pub verify-sender-spec : {M : Type 1} → statement M
 verify-sender-spec =

@@ -22,7 +22,7 @@ returns : tie.Need-returns
 returns c =
     let x = c .before in
     let z = x .before .before in
-    λ v e. faulty (acl z) (z .args .protected) (z .args .operation) (body z) v (x .body-fault .ensures v e) (c .if1 .taken)
+    λ v e. faulty (acl z) (z .args .protected) (z .args .choice) (body z) v (x .body-fault .ensures v e) (c .if1 .taken)
 
 add-permitted : tie.Need-add-permitted
 add-permitted c = let z = c .before .before .before .before in end-fits (now (z .args .command)) (z .args .body .entry .key) (z .good .1 .1 .1 .1 .0 .0) (z .pre .1 .entry .key .inside)
@@ -61,7 +61,7 @@ part-permitted-end-3 : tie.Need-part-permitted-end-3
 part-permitted-end-3 c = c .before .before .before .before .before .before .before .before .pre .1 .range .end .inside
 
 permitted-requires : tie.Need-permitted-requires
-permitted-requires c κs = c .before .before .before .before .before .before .before .before .before .pre .0
+permitted-requires c κs = let z = c .before .before .before .before .before .before .before .before .before in (z .pre .0, z .pre .2)
 
 returns-2 : tie.Need-returns-2
 returns-2 c =
@@ -69,7 +69,7 @@ returns-2 c =
     let w = y .before .before .before .before .before .before .before in
     let x = w .before in
     let z = x .before .before in
-    λ v e. forbidden (acl z) (z .args .protected) (z .args .operation) (body z) v (x .body-fault .ensures v e) (w .if1 .left) (y .permitted .ensures (body z) (keys-cut (now (z .args .command)) (z .args .body) (z .pre .1))) (c .if2 .taken)
+    λ v e. forbidden (acl z) (z .args .protected) (z .args .choice) (body z) v (x .body-fault .ensures v e) (w .if1 .left) (y .permitted .ensures (body z) (keys-cut (now (z .args .command)) (z .args .body) (z .pre .1))) (c .if2 .taken)
 
 returns-3 : tie.Need-returns-3
 returns-3 c =
@@ -77,7 +77,7 @@ returns-3 c =
     let w = y .before .before .before .before .before .before .before in
     let x = w .before in
     let z = x .before .before in
-    λ v e. allowed (acl z) (z .args .protected) (z .args .operation) (body z) v (x .body-fault .ensures v e) (w .if1 .left) (y .permitted .ensures (body z) (keys-cut (now (z .args .command)) (z .args .body) (z .pre .1))) (c .if2 .left)
+    λ v e. allowed (acl z) (z .args .protected) (z .args .choice) (body z) v (x .body-fault .ensures v e) (w .if1 .left) (y .permitted .ensures (body z) (keys-cut (now (z .args .command)) (z .args .body) (z .pre .1))) (c .if2 .left)
 
 pub admit-spec : {M : Type 1} → statement M
 admit-spec =

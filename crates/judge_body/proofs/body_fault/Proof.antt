@@ -1,7 +1,7 @@
 use denote.Ref.{now}
 use borrow.Author.Needs.{needs}
 use mathlib.Core.Path.{sym, ap, _∙_}
-use Rattle.fields_lookup.specs.Views.{numView}
+use Rattle.fields_lookup.specs.Views.{signedView}
 use Rattle.protocol.specs.Judge.{broken}
 use Rattle.request_command.specs.Views.{bodyView}
 use Rattle.judge_body.proofs.Parts.{is-there}
@@ -63,7 +63,7 @@ returns c v e =
       pair = sym (x1 .broken .ensures ∙ ap broken (x0 .key-value-right .ensures s (l .entry)));
       change = sym (x3 .broken2 .ensures ∙ ap broken (x2 .change-right .ensures s (l .entry)));
       range = sym (x5 .broken3 .ensures ∙ ap broken (x4 .range-right .ensures s (l .range)));
-      setup = ap broken (is-there (w .changed) (numView (w .cluster))) ∙ sym (x6 .broken4 .ensures);
+      setup = ap broken (is-there (w .changed) (signedView (w .cluster))) ∙ sym (x6 .broken4 .ensures);
       log = λ o. sym (x7 .log-code .ensures o);
       security = λ o. sym (x8 .security-code .ensures o);
     })

@@ -1,5 +1,6 @@
-use mathlib.Core.Path.{_≡_}
+use mathlib.Core.Path.{_≡_, _∙_}
 use denote.Ref.{now}
+use Rattle.base_integers.specs.SignedLaws.{word-kept}
 use Rattle.protocol.specs.State.{State, withDevice}
 use Rattle.request_scope.specs.Stands.{aclsIn}
 use Rattle.reply_send.specs.SentLaws.{sent-as}
@@ -24,9 +25,10 @@ returns : tie.Need-returns
 returns c =
     let m = c .before .before .before .before in
     let z = m .before .before .before .before .before .before .before in
+    let v = m .before .before .cluster-version in
     λ (t : State) (q : t .device ≡ now (z .args .device)).
     sent-as (z .args .reply-to) (now (z .args .signing-key))
-    (secured (aclsIn (now (z .args .command)) (z .args .security)) (m .security-table .ensures) (z .pre .3) (m .before .before .cluster-version .ensures) t q)
+    (secured (aclsIn (now (z .args .command)) (z .args .security)) (m .security-table .ensures) (z .pre .3) (word-kept (v .result) (v .ok) ∙ v .ensures) t q)
     (c .before .before .status .ensures (withDevice t _))
 
 pub secure-spec : {M : Type 1} → statement M

@@ -1,4 +1,5 @@
 use mathlib.Core.Path.{_∙_, sym}
+use native.Mathlib.Omega.{arith}
 use borrow.Author.Tests.{not-false}
 use Rattle.access_record.specs.LookupLaws.{found-placed}
 use borrow.Author.Needs.{needs}
@@ -22,7 +23,7 @@ enum-known-place c = search needs
 
 permits-range-requires : tie.Need-permits-range-requires
 permits-range-requires c κs =
-    found-placed _ _ _ (sym (c .before .before .before .before .before .record-good .ensures) ∙ not-false _ (c .before .before .before .before .if1 .left)) (sym (c .before .before .before .find-identity .ensures) ∙ c .before .place .given .1)
+    (found-placed _ _ _ (sym (c .before .before .before .before .before .record-good .ensures) ∙ not-false _ (c .before .before .before .before .if1 .left)) (sym (c .before .before .before .find-identity .ensures) ∙ c .before .place .given .1), omega arith)
 
 returns-2 : tie.Need-returns-2
 returns-2 c = search needs

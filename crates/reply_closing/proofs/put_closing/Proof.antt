@@ -1,5 +1,11 @@
 use native.Mathlib.Omega.{arith}
-use mathlib.Core.Path.{refl}
+use Prim.Native.Nat.{ℕ}
+use mathlib.Core.Path.{refl, ap}
+use Rattle.base_integers.specs.Signed.{wordOf}
+use Rattle.base_integers.specs.SignedLaws.{word-kept}
+use Rattle.fields_schema.specs.Tree.{done, int}
+use Rattle.fields_encoding.specs.Encode.{lenField, encode}
+use Rattle.fields_write_bytes.specs.PushedLaws.{again}
 use Rattle.reply_envelope.specs.FramesLaws.{closing-law, copied}
 use borrow.Author.Needs.{needs}
 use Rattle.reply_closing.proofs.put_closing.Statement.{statement}
@@ -58,12 +64,13 @@ same-length c = search needs
 
 returns : tie.Need-returns
 returns c =
-    let a = c .before .before .before .before .before .before .before .before .before .before .before .before .before .before .before .before .before .before .before .before .before .before .args in
+    let s = c .before .before .before .before .before .before .before .before .before .before .before .before .before .before .before .before .before .before .before .before .before .before in
+    let a = s .args in
     let prefix = c .before .before .before .before .before .before .before .push-prefix in
     copied (prefix .last .0) (prefix .result) 128 (omega arith)
-    (closing-law (a .connection) (a .code) refl (omega arith) (prefix .ensures) (c .before .before .before .before .before .before .before .before .before .before .push-int .ensures .0)
+    (closing-law (wordOf (a .connection)) (a .code) refl (omega arith) (prefix .ensures) (c .before .before .before .before .before .before .before .before .before .before .push-int .ensures .0)
     (c .before .before .before .before .before .before .before .before .before .before .before .before .before .push-head .ensures .0)
-    (c .before .before .before .before .before .before .before .before .before .before .before .before .before .before .before .before .push-connection .ensures .0)
+    (again (ap (λ (n : ℕ). lenField 1 (encode (int 3 n done))) (word-kept (a .connection) (s .fits .connection .sfits))) (c .before .before .before .before .before .before .before .before .before .before .before .before .before .before .before .before .push-connection .ensures .0))
     (c .before .before .before .before .before .before .before .before .before .before .before .before .before .before .before .before .before .before .before .push-status .ensures .0))
     (c .before .before .copy .ensures)
 

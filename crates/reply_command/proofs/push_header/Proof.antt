@@ -3,7 +3,9 @@ use mathlib.Core.Path.{ap}
 use mathlib.Core.Option.{Option}
 use Prim.Native.Nat.{ℕ}
 use Rattle.fields_schema.specs.Tree.{done}
-use Rattle.fields_encoding.specs.Encode.{encode, intO}
+use Rattle.base_integers.specs.Signed.{wordOf}
+use Rattle.base_integers.specs.SignedLaws.{word-kept}
+use Rattle.fields_encoding.specs.Encode.{encode, intField, intO}
 use Rattle.fields_write_bytes.specs.PushedLaws.{again}
 use Rattle.reply_command.specs.PartsLaws.{header-law}
 use Rattle.reply_command.specs.Repeated.{ackOf}
@@ -20,8 +22,8 @@ ack-requires c κs = search needs
 push-maybe-requires : tie.Need-push-maybe-requires
 push-maybe-requires c κs = search needs
 
-push-int-requires-2 : tie.Need-push-int-requires-2
-push-int-requires-2 c κs = search needs
+push-signed-requires : tie.Need-push-signed-requires
+push-signed-requires c κs = search needs
 
 sub-push-head : tie.Need-sub-push-head
 sub-push-head c = search needs
@@ -35,12 +37,13 @@ same-length c = search needs
 returns : tie.Need-returns
 returns c =
     let head = c .before .before .push-head .ensures in
-    let connection = c .before .before .before .before .before .before .push-int2 .ensures in
-    let m = c .before .before .before .before .before .before .before .before .before .before in
+    let connection = c .before .before .before .before .before .before .push-signed .ensures in
+    let told = c .before .before .before .before .before .before .before .struct-told in
+    let m = c .before .before .before .before .before .before .before .before .before .before .before in
     let ack = m .push-maybe .ensures in
     let type = m .before .before .before .before .before .push-int .ensures in
     let to = m .before .before .before .before .before .before .before .before .args .reply-to in (
-      header-law (to .connection) (ackOf to) (to .kind) (head .0) (connection .0) (again (ap (λ (o : Option ℕ). encode (intO 6 o done)) (m .before .ack .ensures)) (ack .0)) (type .0),
+      header-law (wordOf (to .connection)) (ackOf to) (to .kind) (head .0) (again (ap (intField 3) (word-kept (to .connection) (told .given .1 .0 .1))) (connection .0)) (again (ap (λ (o : Option ℕ). encode (intO 6 o done)) (m .before .ack .ensures)) (ack .0)) (type .0),
       omega (arith, head .1, connection .1, ack .1, type .1),
     )
 
@@ -51,7 +54,7 @@ push-header-spec =
     push-int-requires
     ack-requires
     push-maybe-requires
-    push-int-requires-2
+    push-signed-requires
     sub-push-head
     push-head-requires
     same-length

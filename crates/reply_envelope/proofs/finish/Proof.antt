@@ -1,8 +1,10 @@
 use Prim.Native.Nat.{_-_}
 use native.Mathlib.Omega.{arith}
-use mathlib.Core.Path.{refl, ap}
+use mathlib.Core.Path.{refl, ap₂}
 use lib.ListN.{length}
 use denote.Ref.{now}
+use Rattle.base_integers.specs.Signed.{wordOf}
+use Rattle.base_integers.specs.SignedLaws.{word-kept}
 use Rattle.fields_write_bytes.specs.PushedLaws.{again}
 use Rattle.reply_envelope.specs.Frames.{authBytes}
 use Rattle.reply_envelope.specs.FramesLaws.{finish-law}
@@ -54,7 +56,7 @@ returns c =
     let auth = c .before .before .before .before .before .before .push-auth .ensures .0 in
     let head = c .before .before .before .before .before .before .before .before .before .before .before .push-head .ensures .0 in
     let digest = c .before .before .before .before .before .before .before .before .before .before .before .before .before .sign .ensures in (
-      finish-law (now (a .key)) (a .identity) (length (now (a .s)) - a .end) refl (s .pre .3) prefix (again (ap (authBytes (a .identity)) digest) auth) head,
+      finish-law (now (a .key)) (wordOf (a .identity)) (length (now (a .s)) - a .end) refl (s .pre .3) prefix (again (ap₂ authBytes (word-kept (a .identity) (s .fits .identity .sfits)) digest) auth) head,
       omega (arith, prefix .from, auth .from, head .from),
     )
 

@@ -1,5 +1,7 @@
 use native.Mathlib.Omega.{arith}
 use denote.Ref.{now}
+use Rattle.base_integers.specs.Signed.{wordOf}
+use Rattle.base_integers.specs.SignedLaws.{word-kept}
 use Rattle.protocol.specs.Judge.{keyValue}
 use Rattle.reply_command.specs.PartsLaws.{command-law}
 use Rattle.reply_command.specs.Repeated.{ackOf, commandTo}
@@ -55,16 +57,17 @@ same-length c = search needs
 
 returns : tie.Need-returns
 returns c =
-    let a = c .before .before .before .before .before .before .before .before .before .before .before .before .before .before .before .before .before .before .before .before .before .before .before .before .before .before .before .args in
+    let a = c .before .before .before .before .before .before .before .before .before .before .before .before .before .before .before .before .before .before .before .before .before .before .before .before .before .before .before .before .args in
     let to = a .reply-to in
+    let told = c .before .before .before .before .before .before .before .before .struct-told in
     let end = c .before .before .before .before .before .before .before .finish in
     let body = keyValue (now (a .key)) (now (a .version)) (now (a .tag)) (a .algorithm) in
-    let command = command-law (to .connection) (ackOf to) (to .kind) body 1 (c .before .before .before .before .before .before .before .before .before .before .push-header .ensures .0)
-    (c .before .before .before .before .before .before .before .before .before .before .before .before .before .push-key-value .ensures .0)
-    (c .before .before .before .before .before .before .before .before .before .before .before .before .before .before .before .before .push-status .ensures .0) in
+    let command = command-law (wordOf (to .connection)) (ackOf to) (to .kind) body 1 (c .before .before .before .before .before .before .before .before .before .before .before .push-header .ensures .0)
+    (c .before .before .before .before .before .before .before .before .before .before .before .before .before .before .push-key-value .ensures .0)
+    (c .before .before .before .before .before .before .before .before .before .before .before .before .before .before .before .before .before .push-status .ensures .0) in
     copied (end .last .0) (end .result) 1024 (omega arith)
-    (signed-whole (commandTo to body 1) _ (end .ensures .0) command
-    (c .before .before .before .before .before .before .before .before .before .before .before .before .before .before .before .before .before .before .before .push-bytes .ensures))
+    (signed-whole (commandTo to body 1) _ (word-kept (to .identity) (told .given .0 .1)) (end .ensures .0) command
+    (c .before .before .before .before .before .before .before .before .before .before .before .before .before .before .before .before .before .before .before .before .push-bytes .ensures))
     (c .before .before .copy .ensures)
 
 pub put-key-value-spec : {M : Type 1} → statement M

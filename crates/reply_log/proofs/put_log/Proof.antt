@@ -1,6 +1,8 @@
 use native.Mathlib.Omega.{arith}
 use mathlib.Core.Path.{refl}
 use denote.Ref.{now}
+use Rattle.base_integers.specs.Signed.{wordOf}
+use Rattle.base_integers.specs.SignedLaws.{word-kept}
 use Rattle.protocol.specs.Judge.{log}
 use Rattle.reply_command.specs.PartsLaws.{command-law}
 use Rattle.reply_command.specs.Repeated.{ackOf, commandTo}
@@ -51,15 +53,16 @@ same-length c = search needs
 
 returns : tie.Need-returns
 returns c =
-    let a = c .before .before .before .before .before .before .before .before .before .before .before .before .before .before .before .before .before .before .before .before .before .before .args in
+    let a = c .before .before .before .before .before .before .before .before .before .before .before .before .before .before .before .before .before .before .before .before .before .before .before .args in
     let to = a .reply-to in
+    let told = c .before .before .before .before .before .before .before .before .struct-told in
     let end = c .before .before .before .before .before .before .before .finish in
     let body = log (logBy (now (a .store)) (now (a .readings)) (a .parts)) in
-    let command = command-law (to .connection) (ackOf to) (to .kind) body 1 (c .before .before .before .before .before .before .before .before .before .before .push-header .ensures .0)
-    (c .before .before .before .before .before .before .before .before .before .before .before .before .before .push-log .ensures .0)
-    (c .before .before .before .before .before .before .before .before .before .before .before .before .before .before .before .before .push-status .ensures .0) in
+    let command = command-law (wordOf (to .connection)) (ackOf to) (to .kind) body 1 (c .before .before .before .before .before .before .before .before .before .before .before .push-header .ensures .0)
+    (c .before .before .before .before .before .before .before .before .before .before .before .before .before .before .push-log .ensures .0)
+    (c .before .before .before .before .before .before .before .before .before .before .before .before .before .before .before .before .before .push-status .ensures .0) in
     copied (end .last .0) (end .result) 1024 (omega arith)
-    (signed-whole (commandTo to body 1) _ (end .ensures .0) command (no-value 1024 _ refl))
+    (signed-whole (commandTo to body 1) _ (word-kept (to .identity) (told .given .0 .1)) (end .ensures .0) command (no-value 1024 _ refl))
     (c .before .before .copy .ensures)
 
 pub put-log-spec : {M : Type 1} → statement M

@@ -1,5 +1,7 @@
 use native.Mathlib.Omega.{arith}
 use mathlib.Core.Path.{refl}
+use Rattle.base_integers.specs.Signed.{wordOf}
+use Rattle.base_integers.specs.SignedLaws.{word-kept}
 use Rattle.protocol.specs.Judge.{bare}
 use Rattle.reply_command.specs.PartsLaws.{bare-law}
 use Rattle.reply_command.specs.Repeated.{ackOf, commandTo}
@@ -43,13 +45,14 @@ same-length c = search needs
 
 returns : tie.Need-returns
 returns c =
-    let a = c .before .before .before .before .before .before .before .before .before .before .before .before .before .before .before .before .before .args in
+    let a = c .before .before .before .before .before .before .before .before .before .before .before .before .before .before .before .before .before .before .args in
     let to = a .reply-to in
+    let told = c .before .before .before .before .before .before .before .before .struct-told in
     let end = c .before .before .before .before .before .before .before .finish in
-    let command = bare-law (to .connection) (ackOf to) (to .kind) (a .code) (c .before .before .before .before .before .before .before .before .before .before .push-header .ensures .0)
-    (c .before .before .before .before .before .before .before .before .before .before .before .before .before .push-status .ensures .0) in
+    let command = bare-law (wordOf (to .connection)) (ackOf to) (to .kind) (a .code) (c .before .before .before .before .before .before .before .before .before .before .before .push-header .ensures .0)
+    (c .before .before .before .before .before .before .before .before .before .before .before .before .before .before .push-status .ensures .0) in
     copied (end .last .0) (end .result) 256 (omega arith)
-    (signed-whole (commandTo to bare (a .code)) _ (end .ensures .0) command (no-value 256 _ refl))
+    (signed-whole (commandTo to bare (a .code)) _ (word-kept (to .identity) (told .given .0 .1)) (end .ensures .0) command (no-value 256 _ refl))
     (c .before .before .copy .ensures)
 
 pub put-status-spec : {M : Type 1} → statement M

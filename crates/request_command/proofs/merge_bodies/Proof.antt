@@ -18,8 +18,8 @@ merge-ranges-requires c κs = search needs
 either-requires-3 : tie.Need-either-requires-3
 either-requires-3 c κs = search needs
 
-later-num-requires : tie.Need-later-num-requires
-later-num-requires c κs = search needs
+later-signed-requires : tie.Need-later-signed-requires
+later-signed-requires c κs = search needs
 
 either-requires-4 : tie.Need-either-requires-4
 either-requires-4 c κs = search needs
@@ -35,7 +35,7 @@ returns c s =
     let k2 = c .before .before .before .before .before .either2 in
     let y = c .before .before .before .before .merge-ranges in
     let k3 = c .before .before .before .either3 in
-    let w = c .before .before .later-num in
+    let w = c .before .before .later-signed in
     let k6 = c .before .either4 in
     let q = c .later-part in
     bodies-law s (a .before) (a .after) (k1 .result) (k2 .result) (k3 .result) (k6 .result) (x .result) (y .result) (w .result) (q .result)
@@ -50,7 +50,7 @@ merge-bodies-spec =
     either-requires-2
     merge-ranges-requires
     either-requires-3
-    later-num-requires
+    later-signed-requires
     either-requires-4
     later-part-requires
     returns)

@@ -11,8 +11,8 @@ use Rattle.request_merged.proofs.read_setup.Tie as tie
 open-at-requires : tie.Need-open-at-requires
 open-at-requires c κs = search needs
 
-num-of-requires : tie.Need-num-of-requires
-num-of-requires c κs = let b = c .before .before in let o = c .open-at in (omega arith, sized-at k.Setup (now (b .args .s)) (b .args .p) (o .result) (o .ensures) (b .pre))
+signed-of-requires : tie.Need-signed-of-requires
+signed-of-requires c κs = let b = c .before .before in let o = c .open-at in (omega arith, sized-at k.Setup (now (b .args .s)) (b .args .p) (o .result) (o .ensures) (b .pre))
 
 returns : tie.Need-returns
 returns c =
@@ -21,7 +21,7 @@ returns c =
     let p = b .args .p in
     let o = c .before .open-at in
     let t = o .result in
-    let x0 = c .num-of in
+    let x0 = c .signed-of in
     x0 .ensures k.Setup (bytesAt s p) (level-at k.Setup s p t (o .ensures) (b .pre)) refl
 
 pub read-setup-spec : {M : Type 1} → statement M
@@ -29,5 +29,5 @@ read-setup-spec =
     tie.close
     (tie.spec
     open-at-requires
-    num-of-requires
+    signed-of-requires
     returns)

@@ -4,7 +4,7 @@ use mathlib.Core.Path.{refl}
 use Rattle.fields_schema.specs.Tree.{Tree, done, subAt, treeIn}
 use Rattle.fields_schema.specs.declared.Kind.the-variants as k
 use Rattle.fields_lookup.specs.Views.{bytesAt, treeOf}
-use Rattle.fields_lookup.specs.LaterLaws.{num-later}
+use Rattle.fields_lookup.specs.LaterLaws.{signed-later}
 use Rattle.fields_repeated.specs.Joins.{Joins}
 use Rattle.fields_repeated.specs.JoinsLaws.{joins-start, joins-empty, joins-end, joins-reads, joins-on}
 use Rattle.request_merged.specs.Setups.{SetupIs}
@@ -40,8 +40,8 @@ read-setup-requires c κs =
     let x = c .before .next-part in
     joins-reads (c .before .before .before .before .loop .inv) (x .result) (x .ensures) (not-false _ (c .if2 .left))
 
-later-num-requires : tie.Need-later-num-requires Inv-loop μ-loop
-later-num-requires c κs = search needs
+later-signed-requires : tie.Need-later-signed-requires Inv-loop μ-loop
+later-signed-requires c κs = search needs
 
 loop-less : tie.Need-loop-less Inv-loop μ-loop
 loop-less c = let e = c .before .before .before in e .before .next-part .ensures .shorter (not-false _ (e .if2 .left))
@@ -53,9 +53,9 @@ loop-again c =
     let o = e .before .before .before .before in
     let s = now (o .before .before .before .args .s) in
     let q = c .before .before .read-setup in
-    let r = c .before .later-num in
+    let r = c .before .later-signed in
     joins-on (o .loop .inv) (x .result) (x .ensures) (not-false _ (e .if2 .left)) (λ (t : Tree). SetupIs t (r .result))
-    (λ t h. num-later 1 t (treeOf k.Setup (bytesAt s (x .result .part))) (o .loop .n) (q .result) (r .result) (r .ensures) h (q .ensures))
+    (λ t h. signed-later 1 t (treeOf k.Setup (bytesAt s (x .result .part))) (o .loop .n) (q .result) (r .result) (r .ensures) h (q .ensures))
 
 returns-2 : tie.Need-returns-2 Inv-loop μ-loop
 returns-2 c = joins-empty (c .before .before .loop .inv) (c .if1 .left)
@@ -71,7 +71,7 @@ read-setups-spec =
     next-part-requires
     returns
     read-setup-requires
-    later-num-requires
+    later-signed-requires
     loop-less
     loop-again
     returns-2)

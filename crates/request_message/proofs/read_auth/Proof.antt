@@ -11,8 +11,8 @@ use Rattle.request_message.proofs.read_auth.Tie as tie
 open-at-requires : tie.Need-open-at-requires
 open-at-requires c κs = search needs
 
-num-of-requires : tie.Need-num-of-requires
-num-of-requires c κs = let b = c .before .before in let o = c .open-at in (omega arith, sized-at k.HmacAuth (now (b .args .s)) (b .args .p) (o .result) (o .ensures) (b .pre))
+signed-of-requires : tie.Need-signed-of-requires
+signed-of-requires c κs = let b = c .before .before in let o = c .open-at in (omega arith, sized-at k.HmacAuth (now (b .args .s)) (b .args .p) (o .result) (o .ensures) (b .pre))
 
 part-of-requires : tie.Need-part-of-requires
 part-of-requires c κs = let b = c .before .before .before in let o = c .before .open-at in part-at k.HmacAuth (now (b .args .s)) (b .args .p) (o .result) (o .ensures) (b .pre) 2 (omega arith) refl
@@ -24,7 +24,7 @@ returns c =
     let p = b .args .p in
     let o = c .before .before .open-at in
     let t = o .result in
-    let x0 = c .before .num-of in
+    let x0 = c .before .signed-of in
     let x1 = c .part-of in
     let l = level-at k.HmacAuth s p t (o .ensures) (b .pre) in
     record { identity = x0 .ensures k.HmacAuth (bytesAt s p) l refl; hmac = x1 .ensures .bytes k.HmacAuth l refl; lies = x1 .ensures .lies }
@@ -34,6 +34,6 @@ read-auth-spec =
     tie.close
     (tie.spec
     open-at-requires
-    num-of-requires
+    signed-of-requires
     part-of-requires
     returns)

@@ -2,6 +2,8 @@ use denote.Ref.{now}
 use native.Mathlib.Omega.{arith}
 use mathlib.Core.Path.{refl}
 use borrow.Author.Needs.{needs}
+use Rattle.base_integers.specs.Signed.{signedOf, wordOf}
+use Rattle.base_integers.specs.SignedLaws.{word-kept}
 use Rattle.fields_schema.specs.declared.Kind.the-variants as k
 use Rattle.fields_lookup.specs.Views.{bytesAt}
 use Rattle.fields_lookup.proofs.Levels.{level-at, only-at, part-at, sized-at}
@@ -40,18 +42,18 @@ all-of-requires c κs = search needs
 
 returns : tie.Need-returns
 returns c =
-    let b = c .before .before .before .before .before .before .before .before .before .before .before in
+    let b = c .before .before .before .before .before .before .before .before .before .before .before .before in
     let s = now (b .args .s) in
     let p = b .args .p in
-    let o = c .before .before .before .before .before .before .before .before .before .open-at in
+    let o = c .before .before .before .before .before .before .before .before .before .before .open-at in
     let t = o .result in
-    let x0 = c .before .before .before .before .before .before .before .before .num-of in
-    let x1 = c .before .before .before .before .before .before .before .part-of in
-    let x2 = c .before .before .before .before .before .before .part-of2 in
-    let x3 = c .before .before .before .before .auth-in in
-    let x6 = c .before .is-one in
-    let x7 = c .all-of in (
-      sealed-law s p (x0 .result) (x1 .result) (x2 .result) (x3 .result) (x6 .result) (x7 .result) (b .pre .1)
+    let x0 = c .before .before .before .before .before .before .before .before .before .num-of in
+    let x1 = c .before .before .before .before .before .before .before .before .part-of in
+    let x2 = c .before .before .before .before .before .before .before .part-of2 in
+    let x3 = c .before .before .before .before .before .auth-in in
+    let x6 = c .before .before .is-one in
+    let x7 = c .before .all-of in (
+      sealed-law s p (x0 .result) (x1 .result) (x2 .result) (x3 .result) (x6 .result) (x7 .result) (signedOf (wordOf (x3 .result .identity .value))) (word-kept (x3 .result .identity .value) (c .struct-told .given .1 .0 .1)) (b .pre .1)
           (x0 .ensures k.Message (bytesAt s p) (level-at k.Message s p t (o .ensures) (b .pre)) refl)
           (x1 .ensures .here k.Message k.HmacAuth (level-at k.Message s p t (o .ensures) (b .pre)) refl)
           (x2 .ensures .bytes k.Message (level-at k.Message s p t (o .ensures) (b .pre)) refl)

@@ -1,10 +1,19 @@
-use Prim.Native.Nat.{_≤_}
+use Prim.Native.Nat.{ℕ, _≤_}
 use native.Mathlib.Omega.{arith}
-use mathlib.Core.Path.{_≡_, refl, sym, _∙_}
+use mathlib.Core.Path.{_≡_, refl, sym, ap, subst, _∙_}
 use mathlib.Core.Bool.{true}
-use lib.Dec.{leb}
+use lib.Dec.{T}
+use lib.IntN.{ℤ, pos, natAbs}
+use lib.Signed.{nonNeg}
+use mir.Syntax.{w8, w64}
+use mir.Val.{Fits}
+use mir.Facts.{toZ-pos}
 use denote.Ref.{now}
 use borrow.Author.Tests.{not-true, not-false, leb-true}
+use Rattle.base_integers.specs.Signed.{signedOf, wordOf}
+use Rattle.base_integers.specs.SignedLaws.{word-kept}
+use Rattle.access_record.specs.Table.{offsetGood}
+use Rattle.access_record.specs.OffsetLaws.{offset-good}
 use Rattle.fields_schema.specs.declared.Kind.the-variants as kind
 use Rattle.fields_lookup.specs.Views.{Level, bytesAt}
 use Rattle.fields_lookup.proofs.Slotted.{level-sized, part-ready}
@@ -18,14 +27,24 @@ level : (c : tie.After-open-at) → Level kind.Scope (bytesAt (now (c .before .b
 level c = level-at (c .open-at .result) (c .before .before .pre) (c .open-at .ensures)
 
 facts : (c : tie.After-permissions-of) → let n = c .before .before .before .before in let z = n .before .before .before .before in
-    Facts (now (z .args .s)) (z .args .p) (n .before .part-of .result) (c .before .before .before .number-or .result) (c .before .flag-of .result) (c .permissions-of .result)
+    Facts (now (z .args .s)) (z .args .p) (n .before .part-of .result) (wordOf (c .before .before .before .signed-or .result)) (c .before .flag-of .result) (c .permissions-of .result)
 facts c =
     let n = c .before .before .before .before in
     let z = n .before .before .before .before in
     let t = n .before .before .open-at in
     let v = n .before .part-of in
-    facts-of (now (z .args .s)) (z .args .p) (t .result) (z .pre) (t .ensures) (v .result) (v .ensures) (n .num-of .result) (c .before .before .before .number-or .result) (n .num-of .ensures) (c .before .before .before .number-or .ensures)
-    (c .before .before .num-of2 .result) (c .before .flag-of .result) (c .before .before .num-of2 .ensures) (c .before .flag-of .ensures) (c .permissions-of .result) (c .permissions-of .ensures)
+    facts-of (now (z .args .s)) (z .args .p) (t .result) (z .pre) (t .ensures) (v .result) (v .ensures) (n .signed-of .result) (wordOf (c .before .before .before .signed-or .result)) (n .signed-of .ensures) (c .before .before .before .signed-or .ensures)
+    (c .before .before .num-of .result) (c .before .flag-of .result) (c .before .before .num-of .ensures) (c .before .flag-of .ensures) (c .permissions-of .result) (c .permissions-of .ensures)
+
+-- the offset's word is judged
+judged : (c : tie.After-offset-good) → offsetGood (wordOf (c .before .before .before .before .before .signed-or .result)) ≡ c .offset-good .result
+judged c =
+    let n = c .before .before .before .before .before .signed-or in
+    sym (c .offset-good .ensures ∙ ap offsetGood (word-kept (n .result) (n .ok)))
+
+-- a small word stands for itself
+word-small : {v : ℕ} → v ≤ 64 → signedOf v ≡ pos v
+word-small h = toZ-pos w64 (omega (arith, h))
 
 open-at-requires : tie.Need-open-at-requires
 open-at-requires c κs = c .before .pre .inside
@@ -35,14 +54,14 @@ part-of-requires c κs =
     let z = c .before .before in
     part-ready kind.Scope (now (z .args .s)) (z .args .p) (c .open-at .result) (level c) (z .pre .inside) 2 (omega arith) refl
 
+signed-of-requires : tie.Need-signed-of-requires
+signed-of-requires c κs = (omega arith, level-sized _ _ _ (level (c .before)))
+
+signed-or-requires : tie.Need-signed-or-requires
+signed-or-requires c κs = search needs
+
 num-of-requires : tie.Need-num-of-requires
-num-of-requires c κs = (omega arith, level-sized _ _ _ (level (c .before)))
-
-number-or-requires : tie.Need-number-or-requires
-number-or-requires c κs = search needs
-
-num-of-requires-2 : tie.Need-num-of-requires-2
-num-of-requires-2 c κs = (omega arith, level-sized _ _ _ (level (c .before .before .before)))
+num-of-requires c κs = (omega arith, level-sized _ _ _ (level (c .before .before .before)))
 
 flag-of-requires : tie.Need-flag-of-requires
 flag-of-requires c κs = search needs
@@ -63,7 +82,7 @@ refused-scope-requires-2 : tie.Need-refused-scope-requires-2
 refused-scope-requires-2 c κs = search needs
 
 returns-2 : tie.Need-returns-2
-returns-2 c = let o = c .before .before in scope-far (facts (o .before .before)) (sym (o .offset-good .ensures) ∙ not-true _ (c .before .if2 .taken)) (c .refused-scope2 .result) (c .refused-scope2 .ensures)
+returns-2 c = let o = c .before .before in scope-far (facts (o .before .before)) (judged o ∙ not-true _ (c .before .if2 .taken)) (c .refused-scope2 .result) (c .refused-scope2 .ensures)
 
 refused-scope-requires-3 : tie.Need-refused-scope-requires-3
 refused-scope-requires-3 c κs = search needs
@@ -71,18 +90,21 @@ refused-scope-requires-3 c κs = search needs
 returns-3 : tie.Need-returns-3
 returns-3 c = scope-long (facts (c .before .before .before .before .before .before)) (c .before .if3 .taken) (c .refused-scope3 .result) (c .refused-scope3 .ensures)
 
-near : (c : tie.Else2) → leb (c .before .before .before .before .before .before .number-or .result) 64 ≡ true
-near c = sym (c .before .offset-good .ensures) ∙ not-false _ (c .if2 .left)
+near : (c : tie.Else2) → offsetGood (wordOf (c .before .before .before .before .before .before .signed-or .result)) ≡ true
+near c = judged (c .before) ∙ not-false _ (c .if2 .left)
 
-cast-t13 : tie.Need-cast-t13
-cast-t13 c =
-    let o = c .before .before in
-    let n = o .before .before .before .before .before .before .number-or .result in
-    let h : n ≤ 64 = leb-true n 64 (near o) in
-    omega arith
+small : (c : tie.Else2) → wordOf (c .before .before .before .before .before .before .signed-or .result) ≤ 64
+small c =
+    let w = wordOf (c .before .before .before .before .before .before .signed-or .result) in
+    leb-true w 64 (sym (offset-good w) ∙ near c)
+
+cast-t14 : tie.Need-cast-t14
+cast-t14 c =
+    let h = small (c .before .before) in
+    subst (λ (y : ℤ). T (nonNeg y) × Fits w8 (natAbs y)) (sym (word-small h)) (tt, record { fits = omega arith })
 
 returns-4 : tie.Need-returns-4
-returns-4 c = let o = c .before .before in let l = o .before .before in scope-read (facts (l .before)) (not-false _ (l .if1 .left)) (near o) (c .if3 .left)
+returns-4 c = let o = c .before .before in let l = o .before .before in scope-read (facts (l .before)) (not-false _ (l .if1 .left)) (near o) (c .if3 .left) _ (ap natAbs (word-small (small o)))
 
 pub read-scope-spec : {M : Type 1} → statement M
 read-scope-spec =
@@ -90,9 +112,9 @@ read-scope-spec =
     (tie.spec
     open-at-requires
     part-of-requires
+    signed-of-requires
+    signed-or-requires
     num-of-requires
-    number-or-requires
-    num-of-requires-2
     flag-of-requires
     permissions-of-requires
     refused-scope-requires
@@ -102,5 +124,5 @@ read-scope-spec =
     returns-2
     refused-scope-requires-3
     returns-3
-    cast-t13
+    cast-t14
     returns-4)

@@ -4,7 +4,7 @@ use mathlib.Core.Path.{_≡_, _∙_, ap, refl, sym}
 use lib.ListN.{length, take, drop, getD}
 use Rattle.store_block.specs.declared.Order.{Order}
 use Rattle.store_block.specs.Order.{cmp}
-use Rattle.store_layout.specs.declared.Found.the-variants.{At, Gap}
+use Rattle.store_layout.specs.declared.KeyPlace.the-variants.{At, Gap}
 use Rattle.store_layout.specs.Store.{blocksIn, entriesFrom, entriesOf}
 use Rattle.store_layout.specs.Entries.{byOrder, findFrom, findIn, pastOf}
 use Rattle.store_layout.specs.EntriesLaws.{by-less, by-equal, by-greater}

@@ -1,7 +1,11 @@
-use mathlib.Core.Path.{_≡_, _∙_, sym}
+use Prim.Native.Nat.{_≤_}
+use native.Mathlib.Omega.{arith}
+use mathlib.Core.Path.{_≡_, _∙_, sym, subst}
 use mathlib.Core.Bool.{true}
 use borrow.Author.Tests.{not-true, not-false}
-use Rattle.store_layout.specs.Store.{storeGood}
+use Rattle.store_layout.specs.declared.KeyPlace.{KeyPlace}
+use Rattle.store_layout.specs.Store.{blocksIn, storeGood}
+use Rattle.store_layout.specs.Entries.{pastOf}
 use Rattle.store_local_read.specs.LocalLaws.{is-bad, good-store, is-found, is-missing}
 use borrow.Author.Needs.{needs}
 use Rattle.store_local_read.proofs.local_find.Statement.{statement}
@@ -26,7 +30,12 @@ enum-known-i : tie.Need-enum-known-i
 enum-known-i c = search needs
 
 value-at-requires : tie.Need-value-at-requires
-value-at-requires c κs = search needs
+unfolding pastOf
+value-at-requires c κs =
+    let f = c .before .before .before in
+    let s = S f .args in
+    let w = subst (λ (o : KeyPlace). pastOf o ≤ blocksIn (s .store .now)) (c .before .i .given .1) (f .find .ensures .within) in
+    (good-store (s .store .now) (s .key .now) (good f), omega arith)
 
 enum-told : tie.Need-enum-told
 enum-told c = search needs
@@ -35,7 +44,7 @@ returns-2 : tie.Need-returns-2
 returns-2 c = let i = c .before .before in
     let f = i .before .before in
     let s = S f .args in
-    is-found (s .store .now) (s .key .now) (good f) _ _ (sym (i .i .given .1) ∙ f .find .ensures .same (good-store (s .store .now) (s .key .now) (good f))) (c .value-at .ensures)
+    is-found (s .store .now) (s .key .now) (good f) _ (sym (i .i .given .1) ∙ f .find .ensures .same (good-store (s .store .now) (s .key .now) (good f))) (c .value-at .ensures)
 
 returns-3 : tie.Need-returns-3
 returns-3 c = let f = c .before .before in

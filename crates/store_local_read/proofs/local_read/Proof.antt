@@ -1,10 +1,11 @@
 use Prim.Native.Nat.{ℕ, _+_, _-_, _≤_}
 use native.Mathlib.Omega.{arith}
-use mathlib.Core.Path.{_≡_, _∙_, ap, sym, subst}
+use mathlib.Core.Path.{_≡_, _∙_, ap, sym}
 use mathlib.Core.List.{List}
 use lib.ListN.{length, take, drop}
 use Rattle.store_local_read.specs.declared.Local.{Local}
-use Rattle.store_local_read.specs.Local.{valueOf, means, Inside}
+use Rattle.store_local_read.specs.Local.{answerOf, partOf}
+use Rattle.store_local_read.specs.LocalLaws.{part-inside}
 use borrow.Author.Needs.{needs}
 use Rattle.store_local_read.proofs.local_read.Statement.{statement}
 use Rattle.store_local_read.proofs.local_read.Tie as tie
@@ -16,7 +17,9 @@ abbrev L : tie.After-local-find → List ℕ
 L c = S c .args .store .now
 
 inside : (c : tie.After-start) → c .start .given .0 .0 + c .start .given .0 .1 .0 ≤ length (L (c .before .before))
-inside c = subst (λ (r : Local). Inside (L (c .before .before)) r) (c .start .given .1) (c .before .before .local-find .ensures .inside)
+inside c =
+    let f = c .before .before in
+    part-inside (L f) (S f .args .key .now) _ _ (sym (ap answerOf (c .start .given .1)) ∙ f .local-find .ensures)
 
 local-find-requires : tie.Need-local-find-requires
 local-find-requires c κs = search needs
@@ -61,24 +64,21 @@ part-result-end-3 : tie.Need-part-result-end-3
 part-result-end-3 c = search needs
 
 returns : tie.Need-returns
-unfolding valueOf
 returns c = let d = c .before .before in
     let f = d .before .before in
     let s = d .start .given .0 .0 in
     let n = d .start .given .0 .1 .0 in
     let e : s + n - s ≡ n = omega arith in
     ap (λ (m : ℕ). take m (drop s (L f))) e
-    ∙ ap (λ (r : Local). valueOf (means (L f) r)) (sym (d .start .given .1)) ∙ ap valueOf (f .local-find .ensures .same)
+    ∙ ap (λ (r : Local). partOf (L f) (answerOf r)) (sym (d .start .given .1)) ∙ ap (partOf (L f)) (f .local-find .ensures)
 
 returns-2 : tie.Need-returns-2
-unfolding valueOf
 returns-2 c = let f = c .before .before .before in
-    ap (λ (r : Local). valueOf (means (L f) r)) (sym (c .before .enum-told .given .1)) ∙ ap valueOf (f .local-find .ensures .same)
+    ap (λ (r : Local). partOf (L f) (answerOf r)) (sym (c .before .enum-told .given .1)) ∙ ap (partOf (L f)) (f .local-find .ensures)
 
 returns-3 : tie.Need-returns-3
-unfolding valueOf
 returns-3 c = let f = c .before .before .before in
-    ap (λ (r : Local). valueOf (means (L f) r)) (sym (c .before .enum-told2 .given .1)) ∙ ap valueOf (f .local-find .ensures .same)
+    ap (λ (r : Local). partOf (L f) (answerOf r)) (sym (c .before .enum-told2 .given .1)) ∙ ap (partOf (L f)) (f .local-find .ensures)
 
 pub local-read-spec : {M : Type 1} → statement M
 local-read-spec =

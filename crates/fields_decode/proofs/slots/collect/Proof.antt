@@ -47,14 +47,14 @@ enum-told-2 c = search needs
 enum-known-number : tie.Need-enum-known-number Inv-loop μ-loop
 enum-known-number c = search needs
 
-place-of-requires : tie.Need-place-of-requires Inv-loop μ-loop
-place-of-requires c κs = search needs
+slot-of-requires : tie.Need-slot-of-requires Inv-loop μ-loop
+slot-of-requires c κs = search needs
 
 refused-requires-3 : tie.Need-refused-requires-3 Inv-loop μ-loop
 refused-requires-3 c κs = search needs
 
 returns-3 : tie.Need-returns-3 Inv-loop μ-loop
-returns-3 c = let a = c .before .before .before .before .before .before .before .before .before .before .before .before .before .args in let s = now (a .s) in let o = c .before .before .before .before .before .before .before .before .before .before .before .loop in let r = c .before .before .before .before .before .before .before .before .before .read-field in let x = c .before .before .before .before .before .before .before .before .next-of in let j = c .before .before .before .before .before .before .judge in let v = c .before .before .before .before .number .given in let q = c .before .before .place-of in going-off (a .kind) s (o .seen) (o .value) (o .len) (o .at) (o .inv) (c .before .before .before .before .before .before .before .before .before .before .loop-test .taken) (r .result) (r .ensures .0) (r .ensures .1) (x .result) (x .ensures) (c .before .before .before .before .before .before .before .if1 .left) (j .result) (j .ensures) (v .0 .0) (v .0 .1 .0) (v .0 .1 .1 .0) (v .1) (c .refused3 .result) (q .result) (q .ensures) (not-true _ (c .before .if2 .taken)) (c .refused3 .ensures)
+returns-3 c = let a = c .before .before .before .before .before .before .before .before .before .before .before .before .before .args in let s = now (a .s) in let o = c .before .before .before .before .before .before .before .before .before .before .before .loop in let r = c .before .before .before .before .before .before .before .before .before .read-field in let x = c .before .before .before .before .before .before .before .before .next-of in let j = c .before .before .before .before .before .before .judge in let v = c .before .before .before .before .number .given in let q = c .before .before .slot-of in going-off (a .kind) s (o .seen) (o .value) (o .len) (o .at) (o .inv) (c .before .before .before .before .before .before .before .before .before .before .loop-test .taken) (r .result) (r .ensures .0) (r .ensures .1) (x .result) (x .ensures) (c .before .before .before .before .before .before .before .if1 .left) (j .result) (j .ensures) (v .0 .0) (v .0 .1 .0) (v .0 .1 .1 .0) (v .1) (c .refused3 .result) (q .result) (q .ensures) (not-true _ (c .before .if2 .taken)) (c .refused3 .ensures)
 
 mul-value : tie.Need-mul-value Inv-loop μ-loop
 mul-value c = let l = let a = c .before .before .before .before .before .before .before .before .before .before .before .before .args in let s = now (a .s) in let o = c .before .before .before .before .before .before .before .before .before .before .loop in let r = c .before .before .before .before .before .before .before .before .read-field in let x = c .before .before .before .before .before .before .before .next-of in let j = c .before .before .before .before .before .judge in let v = c .before .before .before .number .given in takes-below (a .kind) s (o .seen) (o .value) (o .len) (o .at) (o .inv) (c .before .before .before .before .before .before .before .before .before .loop-test .taken) (r .result) (r .ensures .0) (r .ensures .1) (x .result) (x .ensures) (c .before .before .before .before .before .before .if1 .left) (j .result) (j .ensures) (v .0 .0) (v .0 .1 .0) (v .0 .1 .1 .0) (v .1) in record { fits = omega arith }
@@ -78,7 +78,7 @@ loop-less-2 : tie.Need-loop-less-2 Inv-loop μ-loop
 loop-less-2 c = omega arith
 
 loop-again-2 : tie.Need-loop-again-2 Inv-loop μ-loop
-loop-again-2 c = let a = c .before .before .before .before .before .before .before .before .before .before .before .before .args in let s = now (a .s) in let o = c .before .before .before .before .before .before .before .before .before .before .loop in let r = c .before .before .before .before .before .before .before .before .read-field in let x = c .before .before .before .before .before .before .before .next-of in let j = c .before .before .before .before .before .judge in let v = c .before .before .before .number .given in let q = c .before .place-of in going-on (a .kind) s (o .seen) (o .value) (o .len) (o .at) (o .inv) (c .before .before .before .before .before .before .before .before .before .loop-test .taken) (r .result) (r .ensures .0) (r .ensures .1) (x .result) (x .ensures) (c .before .before .before .before .before .before .if1 .left) (j .result) (j .ensures) (v .0 .0) (v .0 .1 .0) (v .0 .1 .1 .0) (v .1) (q .result) (q .ensures) (not-false _ (c .if2 .left))
+loop-again-2 c = let a = c .before .before .before .before .before .before .before .before .before .before .before .before .args in let s = now (a .s) in let o = c .before .before .before .before .before .before .before .before .before .before .loop in let r = c .before .before .before .before .before .before .before .before .read-field in let x = c .before .before .before .before .before .before .before .next-of in let j = c .before .before .before .before .before .judge in let v = c .before .before .before .number .given in let q = c .before .slot-of in going-on (a .kind) s (o .seen) (o .value) (o .len) (o .at) (o .inv) (c .before .before .before .before .before .before .before .before .before .loop-test .taken) (r .result) (r .ensures .0) (r .ensures .1) (x .result) (x .ensures) (c .before .before .before .before .before .before .if1 .left) (j .result) (j .ensures) (v .0 .0) (v .0 .1 .0) (v .0 .1 .1 .0) (v .1) (q .result) (q .ensures) (not-false _ (c .if2 .left))
 
 returns-4 : tie.Need-returns-4 Inv-loop μ-loop
 returns-4 c = let a = c .before .before .before .args in let o = c .before .loop in going-end (a .kind) (now (a .s)) (o .seen) (o .value) (o .len) (o .at) (o .inv) (c .loop-test .left)
@@ -100,7 +100,7 @@ collect-spec =
     returns-2
     enum-told-2
     enum-known-number
-    place-of-requires
+    slot-of-requires
     refused-requires-3
     returns-3
     mul-value

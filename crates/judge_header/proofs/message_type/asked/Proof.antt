@@ -1,55 +1,55 @@
 use mathlib.Core.Path.{sym, ap}
-use Rattle.protocol.specs.Operation.{asked}
+use Rattle.protocol.specs.Operation.{asked, askedIn}
 use Rattle.judge_header.specs.MessageTypeLaws.{not-built}
 use Rattle.judge_header.proofs.message_type.asked.Statement.{statement}
 use Rattle.judge_header.proofs.message_type.asked.Tie as tie
 
 returns : tie.Need-returns
-unfolding asked
+unfolding asked askedIn
 returns c = sym (ap asked (c .match .keys1))
 
 returns-2 : tie.Need-returns-2
-unfolding asked
+unfolding asked askedIn
 returns-2 c = sym (ap asked (c .match .keys2))
 
 returns-3 : tie.Need-returns-3
-unfolding asked
+unfolding asked askedIn
 returns-3 c = sym (ap asked (c .match .keys3))
 
 returns-4 : tie.Need-returns-4
-unfolding asked
+unfolding asked askedIn
 returns-4 c = sym (ap asked (c .match .keys4))
 
 returns-5 : tie.Need-returns-5
-unfolding asked
+unfolding asked askedIn
 returns-5 c = sym (ap asked (c .match .keys5))
 
 returns-6 : tie.Need-returns-6
-unfolding asked
+unfolding asked askedIn
 returns-6 c = sym (ap asked (c .match .keys6))
 
 returns-7 : tie.Need-returns-7
-unfolding asked
+unfolding asked askedIn
 returns-7 c = sym (ap asked (c .match .keys7))
 
 returns-8 : tie.Need-returns-8
-unfolding asked
+unfolding asked askedIn
 returns-8 c = sym (ap asked (c .match .keys8))
 
 returns-9 : tie.Need-returns-9
-unfolding asked
+unfolding asked askedIn
 returns-9 c = sym (ap asked (c .match .keys9))
 
 returns-10 : tie.Need-returns-10
-unfolding asked
+unfolding asked askedIn
 returns-10 c = sym (ap asked (c .match .keys10))
 
 returns-11 : tie.Need-returns-11
-unfolding asked
+unfolding asked askedIn
 returns-11 c = sym (ap asked (c .match .keys11))
 
 returns-12 : tie.Need-returns-12
-unfolding asked
+unfolding asked askedIn
 returns-12 c = sym (ap asked (c .match .keys12))
 
 returns-13 : tie.Need-returns-13

@@ -31,7 +31,7 @@ same-length-2 c = search needs
 returns-2 : tie.Need-returns-2
 returns-2 c = let e = c .before .before .before .before .before in let w = e .before in let v = w .before in let s = v .before .before .before .before .before .before .before .before in
     let t = c .before .before .before .put in
-    λ k p. put-right (now (s .args .value)) (s .pre .0) p (v .compare-version .result) (v .compare-version .ensures) (s .pre .1) (sym (not-false _ (e .if1 .left)) ∙ w .version-fits .ensures) (t .result) (t .ensures .0) (t .ensures .1) (c .put-code .ensures)
+    λ k p. put-right (now (s .args .value)) (s .pre .0) p (v .compare-version .result) (v .compare-version .ensures) (sym (not-false _ (e .if1 .left)) ∙ w .version-fits .ensures) (t .result) (t .ensures .0) (t .ensures .1) (c .put-code .ensures)
 
 pub put-spec : {M : Type 1} → statement M
 put-spec =

@@ -1,6 +1,8 @@
 use native.Mathlib.Omega.{arith}
 use mathlib.Core.Path.{refl}
 use denote.Ref.{now}
+use Rattle.base_integers.specs.Signed.{wordOf}
+use Rattle.base_integers.specs.SignedLaws.{word-kept}
 use Rattle.store_layout.specs.Store.{entriesOf}
 use Rattle.protocol.specs.Judge.{range}
 use Rattle.reply_command.specs.PartsLaws.{command-law}
@@ -52,15 +54,16 @@ same-length c = search needs
 
 returns : tie.Need-returns
 returns c =
-    let a = c .before .before .before .before .before .before .before .before .before .before .before .before .before .before .before .before .before .before .before .before .before .args in
+    let a = c .before .before .before .before .before .before .before .before .before .before .before .before .before .before .before .before .before .before .before .before .before .before .args in
     let to = a .reply-to in
+    let told = c .before .before .before .before .before .before .before .before .struct-told in
     let end = c .before .before .before .before .before .before .before .finish in
     let body = range (keysFrom (a .reverse) (a .first) (a .count) (entriesOf (now (a .store)))) in
-    let command = command-law (to .connection) (ackOf to) (to .kind) body 1 (c .before .before .before .before .before .before .before .before .before .before .push-header .ensures .0)
-    (c .before .before .before .before .before .before .before .before .before .before .before .before .before .push-range .ensures .0)
-    (c .before .before .before .before .before .before .before .before .before .before .before .before .before .before .before .before .push-status .ensures .0) in
+    let command = command-law (wordOf (to .connection)) (ackOf to) (to .kind) body 1 (c .before .before .before .before .before .before .before .before .before .before .before .push-header .ensures .0)
+    (c .before .before .before .before .before .before .before .before .before .before .before .before .before .before .push-range .ensures .0)
+    (c .before .before .before .before .before .before .before .before .before .before .before .before .before .before .before .before .before .push-status .ensures .0) in
     copied (end .last .0) (end .result) 3072 (omega arith)
-    (signed-whole (commandTo to body 1) _ (end .ensures .0) command (no-value 3072 _ refl))
+    (signed-whole (commandTo to body 1) _ (word-kept (to .identity) (told .given .0 .1)) (end .ensures .0) command (no-value 3072 _ refl))
     (c .before .before .copy .ensures)
 
 pub put-range-spec : {M : Type 1} → statement M

@@ -1,5 +1,5 @@
 use mathlib.Core.Path.{_≡_, _∙_, sym}
-use Rattle.store_layout.specs.declared.Found.the-variants.{At}
+use Rattle.store_layout.specs.declared.KeyPlace.the-variants.{At}
 use Rattle.store_layout.specs.Store.{entriesOf}
 use Rattle.store_layout.specs.Entries.{findIn}
 use Rattle.store_write.specs.ChangeLaws.{delete-low, taken, kept}

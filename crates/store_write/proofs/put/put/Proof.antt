@@ -8,7 +8,7 @@ use Rattle.store_block.specs.Entry.{Entry, entry, Fit}
 use Rattle.store_block.specs.Block.{block, decode, BlockGood}
 use Rattle.store_block.specs.BlockLaws.{length-block, fit-good, good-fit, decode-own}
 use Rattle.store_block.specs.Over.{over}
-use Rattle.store_layout.specs.declared.Found.the-variants.{At, Gap}
+use Rattle.store_layout.specs.declared.KeyPlace.the-variants.{At, Gap}
 use Rattle.store_layout.specs.Store.{entriesOf}
 use Rattle.store_layout.specs.StoreLaws.{good-length, room}
 use Rattle.store_layout.specs.Entries.{findIn}
