@@ -2,4 +2,3 @@ pub mod Views
 pub mod Level
 pub mod LevelLaws
 pub mod SliceLaws
-pub mod LaterLaws

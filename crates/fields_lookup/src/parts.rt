@@ -1,5 +1,4 @@
 // Numbers and parts of a message, out of the slots of a level.
-ghost use mathlib.Core.Bool.{cond};
 ghost use mathlib.Core.Path.{_≡_};
 ghost use Prim.Native.Nat.{_<_};
 ghost use Rattle.base_definitions.specs.Bits.{bit};
@@ -95,51 +94,4 @@ pub fn sent_twice(t: Slots) -> bool
     ensures { λ r. ⌜ r ≡ bit (t .has) 0 ⌝ }
 {
     marked(t.has, 0)
-}
-
-// The later number, or where there is none the earlier.
-pub fn later_num(before: Num, after: Num) -> Num
-    ensures { λ r. ⌜ r ≡ cond (after .has) after before ⌝ }
-{
-    let has = after.has;
-    if has {
-        return Num {
-            has: true,
-            value: after.value,
-        };
-    }
-    Num {
-        has: before.has,
-        value: before.value,
-    }
-}
-
-// The later signed number, or where there is none the earlier.
-pub fn later_signed(before: Signed, after: Signed) -> Signed
-    ensures { λ r. ⌜ r ≡ cond (after .has) after before ⌝ }
-{
-    let has = after.has;
-    if has {
-        return after;
-    }
-    before
-}
-
-// The later part, or where there is none the earlier.
-pub fn later_part(before: Part, after: Part) -> Part
-    ensures { λ r. ⌜ r ≡ cond (after .has) after before ⌝ }
-{
-    let has = after.has;
-    if has {
-        return Part {
-            has: true,
-            start: after.start,
-            len: after.len,
-        };
-    }
-    Part {
-        has: before.has,
-        start: before.start,
-        len: before.len,
-    }
 }

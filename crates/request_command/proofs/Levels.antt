@@ -17,7 +17,7 @@ use Rattle.fields_schema.specs.declared.Kind.the-variants as k
 use Rattle.base_definitions.specs.Options.{orElse}
 use Rattle.fields_lookup.specs.Views.{Reads, treeOf, bytesAt, signedView, partView, noPart, Lies, After, Merges, Sub}
 use Rattle.fields_lookup.specs.LevelLaws.{tree-is}
-use Rattle.fields_lookup.specs.LaterLaws.{signed-later, later-is}
+use Rattle.fields_later.specs.LaterLaws.{signed-later, later-is}
 use Rattle.fields_lookup.specs.declared.parts.Signed.{Signed}
 use Rattle.fields_lookup.specs.declared.parts.Part.{Part}
 use Rattle.fields_lookup.proofs.Slotted.{sub-view, nil-at, nil-reads}

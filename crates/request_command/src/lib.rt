@@ -12,10 +12,10 @@ ghost use Rattle.protocol.specs.Command.{commandOf};
 ghost use Rattle.protocol.specs.Reading.{decodes, securityOnce};
 ghost use Rattle.request_command.specs.Views.{BodyIs, BodyLies, CountIs, Secured, requestView};
 use fields_decode::nested::reads;
+use fields_later::later_part;
+use fields_later::later_signed;
 use fields_lookup::parts::Part;
 use fields_lookup::parts::Signed;
-use fields_lookup::parts::later_part;
-use fields_lookup::parts::later_signed;
 use fields_lookup::parts::open_at;
 use fields_lookup::parts::part_of;
 use fields_lookup::parts::sent_twice;
@@ -30,11 +30,11 @@ use request_merged::setup_in;
 use request_parts::Header;
 use request_parts::KeyValue;
 use request_parts::Range;
-use request_parts::merge_key_values;
-use request_parts::merge_ranges;
-use request_parts::no_header;
-use request_parts::no_key_value;
-use request_parts::no_range;
+use request_parts_merge::merge_key_values;
+use request_parts_merge::merge_ranges;
+use request_parts_merge::no_header;
+use request_parts_merge::no_key_value;
+use request_parts_merge::no_range;
 
 // The parts of a body, each with whether it is there: keyValue, range, setup (its newClusterVersion), getLog (whether it is there) and security.
 pub struct Body {

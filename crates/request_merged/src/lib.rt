@@ -4,9 +4,9 @@ ghost use Rattle.fields_schema.specs.Tree.{done, subAt, treeIn};
 ghost use Rattle.fields_lookup.specs.Views.{Inside, Only, Reads, bytesAt, treeOf};
 ghost use Rattle.request_parts.specs.Views.{HeaderIs, KeyValueIs, RangeIs};
 ghost use Rattle.request_merged.specs.Setups.{SetupIs};
+use fields_later::later_signed;
 use fields_lookup::parts::Part;
 use fields_lookup::parts::Signed;
-use fields_lookup::parts::later_signed;
 use fields_lookup::parts::open_at;
 use fields_lookup::parts::signed_of;
 use fields_repeated::next_part;
@@ -17,15 +17,15 @@ use fields_schema::field_number::setup;
 use request_parts::Header;
 use request_parts::KeyValue;
 use request_parts::Range;
-use request_parts::merge_headers;
-use request_parts::merge_key_values;
-use request_parts::merge_ranges;
-use request_parts::no_header;
-use request_parts::no_key_value;
-use request_parts::no_range;
 use request_parts::read_header;
 use request_parts::read_key_value;
 use request_parts::read_range;
+use request_parts_merge::merge_headers;
+use request_parts_merge::merge_key_values;
+use request_parts_merge::merge_ranges;
+use request_parts_merge::no_header;
+use request_parts_merge::no_key_value;
+use request_parts_merge::no_range;
 
 // Every header of the command in the part p.
 fn read_headers(s: &[u8], p: Part) -> Header

@@ -12,7 +12,7 @@ use Rattle.fields_schema.specs.Tree.{thenO, guard, isSome, listed, Tree, intAt,
 use Rattle.fields_schema.specs.declared.Kind.the-variants as k
 use Rattle.fields_lookup.specs.Views as views
 use Rattle.fields_lookup.specs.Views.{Reads, treeOf, bytesAt, numView, partView, Lies, Merges}
-use Rattle.fields_lookup.specs.LaterLaws.{signed-later, part-later, later-is}
+use Rattle.fields_later.specs.LaterLaws.{signed-later, part-later, later-is}
 use Rattle.fields_lookup.specs.LevelLaws.{tree-is}
 use Rattle.fields_lookup.specs.declared.parts.Num.{Num}
 use Rattle.fields_lookup.specs.declared.parts.Part.{Part}

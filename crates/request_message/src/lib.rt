@@ -9,11 +9,11 @@ ghost use Rattle.fields_lookup.specs.Views.{Inside, Merges, Only, Reads, bytesA
 ghost use Rattle.protocol.specs.Reading.{isOne, readMessage};
 ghost use Rattle.request_message.specs.Messages.{AuthIs, SealedLies, sealedView};
 use fields_decode::nested::reads;
+use fields_later::later_part;
+use fields_later::later_signed;
 use fields_lookup::parts::Num;
 use fields_lookup::parts::Part;
 use fields_lookup::parts::Signed;
-use fields_lookup::parts::later_part;
-use fields_lookup::parts::later_signed;
 use fields_lookup::parts::num_of;
 use fields_lookup::parts::open_at;
 use fields_lookup::parts::part_of;

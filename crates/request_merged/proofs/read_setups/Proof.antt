@@ -4,7 +4,7 @@ use mathlib.Core.Path.{refl}
 use Rattle.fields_schema.specs.Tree.{Tree, done, subAt, treeIn}
 use Rattle.fields_schema.specs.declared.Kind.the-variants as k
 use Rattle.fields_lookup.specs.Views.{bytesAt, treeOf}
-use Rattle.fields_lookup.specs.LaterLaws.{signed-later}
+use Rattle.fields_later.specs.LaterLaws.{signed-later}
 use Rattle.fields_repeated.specs.Joins.{Joins}
 use Rattle.fields_repeated.specs.JoinsLaws.{joins-start, joins-empty, joins-end, joins-reads, joins-on}
 use Rattle.request_merged.specs.Setups.{SetupIs}

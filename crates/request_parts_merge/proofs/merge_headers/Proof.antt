@@ -1,7 +1,7 @@
 use borrow.Author.Needs.{needs}
-use Rattle.request_parts.proofs.Levels.{headers-law}
-use Rattle.request_parts.proofs.merge_headers.Statement.{statement}
-use Rattle.request_parts.proofs.merge_headers.Tie as tie
+use Rattle.request_parts_merge.proofs.Levels.{headers-law}
+use Rattle.request_parts_merge.proofs.merge_headers.Statement.{statement}
+use Rattle.request_parts_merge.proofs.merge_headers.Tie as tie
 
 later-signed-requires : tie.Need-later-signed-requires
 later-signed-requires c κs = search needs

@@ -1,8 +1,8 @@
 use mathlib.Core.Path.{_≡_, sym, ap, _∙_}
 use mathlib.Core.Bool.{true, false, cond}
 use Rattle.fields_lookup.specs.declared.parts.Num.{Num}
-use Rattle.fields_lookup.proofs.parts.later_num.Statement.{statement}
-use Rattle.fields_lookup.proofs.parts.later_num.Tie as tie
+use Rattle.fields_later.proofs.later_num.Statement.{statement}
+use Rattle.fields_later.proofs.later_num.Tie as tie
 
 taken : (b a : Num) → a .has ≡ true → _≡_ {A = Num} (record { has = true; value = a .value }) (cond (a .has) a b)
 taken b a e = ap (λ h. record { has = h; value = a .value }) (sym e) ∙ sym (ap (λ h. cond h a b) e)

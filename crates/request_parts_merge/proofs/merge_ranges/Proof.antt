@@ -1,7 +1,7 @@
 use borrow.Author.Needs.{needs}
-use Rattle.request_parts.proofs.Levels.{ranges-law}
-use Rattle.request_parts.proofs.merge_ranges.Statement.{statement}
-use Rattle.request_parts.proofs.merge_ranges.Tie as tie
+use Rattle.request_parts_merge.proofs.Levels.{ranges-law}
+use Rattle.request_parts_merge.proofs.merge_ranges.Statement.{statement}
+use Rattle.request_parts_merge.proofs.merge_ranges.Tie as tie
 
 later-part-requires : tie.Need-later-part-requires
 later-part-requires c κs = search needs

@@ -1,8 +1,8 @@
 use mathlib.Core.Path.{_≡_, sym, ap, _∙_}
 use mathlib.Core.Bool.{true, false, cond}
 use Rattle.fields_lookup.specs.declared.parts.Part.{Part}
-use Rattle.fields_lookup.proofs.parts.later_part.Statement.{statement}
-use Rattle.fields_lookup.proofs.parts.later_part.Tie as tie
+use Rattle.fields_later.proofs.later_part.Statement.{statement}
+use Rattle.fields_later.proofs.later_part.Tie as tie
 
 taken : (b a : Part) → a .has ≡ true → _≡_ {A = Part} (record { has = true; start = a .start; len = a .len }) (cond (a .has) a b)
 taken b a e = ap (λ h. record { has = h; start = a .start; len = a .len }) (sym e) ∙ sym (ap (λ h. cond h a b) e)
