@@ -17,9 +17,9 @@ use fields_lookup::parts::Part;
 use fields_lookup::parts::Signed;
 use fields_schema::Kind;
 use request_command::Request;
-use request_command::numbers::number_or;
-use request_command::numbers::signed_or;
 use request_command::read_request;
+use request_numbers::number_or;
+use request_numbers::signed_or;
 
 // 0 if the command decodes, else 1.
 #[no_mangle]

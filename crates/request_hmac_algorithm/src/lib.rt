@@ -9,7 +9,7 @@ use fields_repeated::next_part;
 use fields_schema::Kind;
 use fields_schema::field_number::acl;
 use fields_schema::field_number::security;
-use request_command::numbers::number_or;
+use request_numbers::number_or;
 
 fn algorithm_of(s: &[u8], p: Part) -> u64
     requires { ⌜ StandsAcl (now s) p ⌝ }

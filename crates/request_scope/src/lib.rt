@@ -14,8 +14,8 @@ use fields_lookup::parts::signed_of;
 use fields_repeated::next_num;
 use fields_schema::Kind;
 use fields_schema::field_number::scope;
-use request_command::numbers::flag_of;
-use request_command::numbers::signed_or;
+use request_numbers::flag_of;
+use request_numbers::signed_or;
 
 // Whether the permissions of a scope are good, and if so their set.
 pub struct Permissions {

@@ -1,6 +1,6 @@
 use borrow.Author.Needs.{needs}
-use Rattle.request_command.proofs.numbers.number_or.Statement.{statement}
-use Rattle.request_command.proofs.numbers.number_or.Tie as tie
+use Rattle.request_numbers.proofs.number_or.Statement.{statement}
+use Rattle.request_numbers.proofs.number_or.Tie as tie
 
 returns : tie.Need-returns
 returns c = search needs

@@ -4,8 +4,8 @@ use Rattle.base_integers.specs.Signed.{wordOf}
 use Rattle.base_integers.specs.SignedLaws.{word-kept}
 use Rattle.base_definitions.specs.Options.{orElse}
 use Rattle.fields_schema.specs.Tree.{guard}
-use Rattle.request_command.proofs.numbers.signed_or.Statement.{statement}
-use Rattle.request_command.proofs.numbers.signed_or.Tie as tie
+use Rattle.request_numbers.proofs.signed_or.Statement.{statement}
+use Rattle.request_numbers.proofs.signed_or.Tie as tie
 
 returns : tie.Need-returns
 returns c =
