@@ -1,5 +1,5 @@
-/* The box of document 01 with change requests 1, 5 and 6 of document 02 in plain C, written from the documents: what the proved box is compared
-   with and measured against.
+/* The box of document 01 with change requests 1, 2, 5 and 6 of document 02 in plain C, written from the documents: what the proved box is
+   compared with and measured against.
 
    Temperatures are turned with the compiler's float: each step must be rounded to f32 by itself. So the float must be evaluated in its own width
    (x86-64 does), no two steps may be made one (the scripts pass -ffp-contract=off), and no flag may change arithmetic. */
@@ -237,13 +237,27 @@ static int record_good(uint8_t *record) {
     return 1;
 }
 
-/* One scope must hold the permission, allow the connection and fit the key; no key is asked of SETUP, GETLOG and SECURITY. */
-static int permits(const uint8_t *acl, int permission, int is_protected, const bytes *key) {
+/* The scopes of an identity that are usable: they hold the permission and allow the connection. */
+typedef struct {
+    size_t count;
+    const uint8_t *at[4];
+} scopes;
+
+static scopes usable(const uint8_t *acl, int permission, int is_protected) {
+    scopes s = {0};
     for (size_t i = 0; i < acl[9]; i++) {
         const uint8_t *scope = scope_at(acl, i);
+        if (mask_of(scope) >> permission & 1 && (is_protected || !scope[4])) s.at[s.count++] = scope;
+    }
+    return s;
+}
+
+/* Whether one of them fits a key. */
+static int fits(const scopes *s, bytes key) {
+    for (size_t i = 0; i < s->count; i++) {
+        const uint8_t *scope = s->at[i];
         size_t offset = scope[0], n = scope[1];
-        if (!(mask_of(scope) >> permission & 1) || (scope[4] && !is_protected)) continue;
-        if (!key || n == 0 || (offset + n <= key->n && same(key->at + offset, scope + 8, n))) return 1;
+        if (n == 0 || (offset + n <= key.n && same(key.at + offset, scope + 8, n))) return 1;
     }
     return 0;
 }
@@ -783,13 +797,18 @@ static uint32_t delete(const box *b, const key_value *v) {
     return SUCCESS;
 }
 
-static void get(const box *b, int64_t type, const key_value *v, result *r) {
+/* GETNEXT and GETPREVIOUS pass over keys that no usable scope fits. */
+static void get(const box *b, const scopes *s, int64_t type, const key_value *v, result *r) {
     size_t i = below(b->store, b->used, v->key);
     int found = is_at(b->store, b->used, i, v->key);
     if (type == GETNEXT) {
         i += (size_t)found;
+        while (i < b->used && !fits(s, key_at(b->store, i))) i++;
         found = i < b->used;
-    } else if (type == GETPREVIOUS) found = i-- > 0;
+    } else if (type == GETPREVIOUS) {
+        while (i > 0 && !fits(s, key_at(b->store, i - 1))) i--;
+        found = i-- > 0;
+    }
     if (!found) {
         r->code = NOT_FOUND;
         return;
@@ -807,14 +826,17 @@ static void get(const box *b, int64_t type, const key_value *v, result *r) {
     r->n = (size_t)(p - r->part);
 }
 
-static void get_key_range(const box *b, const range *g, result *r) {
+/* maxReturned counts the keys that a usable scope fits. */
+static void get_key_range(const box *b, const scopes *s, const range *g, result *r) {
     size_t from = below(b->store, b->used, g->start), to = below(b->store, b->used, g->end);
     if (!g->start_inclusive && is_at(b->store, b->used, from, g->start)) from++;
     if (g->end_inclusive && is_at(b->store, b->used, to, g->end)) to++;
     uint8_t *p = r->part;
-    for (int64_t left = g->most; left > 0 && from < to; left--) {
+    for (int64_t left = g->most; left > 0 && from < to;) {
         bytes key = key_at(b->store, g->reverse ? --to : from++);
+        if (!fits(s, key)) continue;
         p = write_bytes(p, 8, key.at, key.n);
+        left--;
     }
     r->number = 2;
     r->n = (size_t)(p - r->part);
@@ -912,29 +934,40 @@ static uint32_t body_fault(const command *c, size_t value) {
     }
 }
 
-/* Step 9. */
-static int authorized(const uint8_t *acl, int tls, const command *c) {
+/* The permission of an operation; NOOP and FLUSHALLDATA need none. */
+static int needed(int64_t type) {
+    switch (type) {
+    case PUT: return WRITE_OK;
+    case DELETE: return DELETE_OK;
+    case GETKEYRANGE: return RANGE_OK;
+    case SETUP: return SETUP_OK;
+    case GETLOG: return GETLOG_OK;
+    case SECURITY: return SECURITY_OK;
+    default: return READ_OK;
+    }
+}
+
+/* Step 9, with the usable scopes: one must fit the key of these four; any will do for the others. */
+static int authorized(const scopes *s, const command *c) {
     switch (c->header.type) {
     case NOOP:
     case FLUSHALLDATA: return 1;
-    case PUT: return permits(acl, WRITE_OK, tls, &c->key_value.key);
-    case DELETE: return permits(acl, DELETE_OK, tls, &c->key_value.key);
-    case GETKEYRANGE: return permits(acl, RANGE_OK, tls, &c->range.start) && permits(acl, RANGE_OK, tls, &c->range.end);
-    case SETUP: return permits(acl, SETUP_OK, tls, NULL);
-    case GETLOG: return permits(acl, GETLOG_OK, tls, NULL);
-    case SECURITY: return permits(acl, SECURITY_OK, tls, NULL);
-    default: return permits(acl, READ_OK, tls, &c->key_value.key);
+    case GET:
+    case GETVERSION:
+    case PUT:
+    case DELETE: return fits(s, c->key_value.key);
+    default: return s->count > 0;
     }
 }
 
 /* Step 10. */
-static void perform(const box *b, const command *c, bytes value, result *r) {
+static void perform(const box *b, const scopes *s, const command *c, bytes value, result *r) {
     r->code = SUCCESS;
     r->number = 1;
     switch (c->header.type) {
     case PUT: r->code = put(b, &c->key_value, value); break;
     case DELETE: r->code = delete(b, &c->key_value); break;
-    case GETKEYRANGE: get_key_range(b, &c->range, r); break;
+    case GETKEYRANGE: get_key_range(b, s, &c->range, r); break;
     case SETUP:
         r->number = 0;
         if (has(c->setup.seen, 1)) put_be64(b->record, c->setup.cluster);
@@ -946,7 +979,7 @@ static void perform(const box *b, const command *c, bytes value, result *r) {
         break;
     case NOOP:
     case FLUSHALLDATA: r->number = 0; break;
-    default: get(b, c->header.type, &c->key_value, r);
+    default: get(b, s, c->header.type, &c->key_value, r);
     }
 }
 
@@ -962,7 +995,8 @@ static void judge(const box *b, const uint8_t *acl, const command *c, bytes valu
         put_be64(connection + 16, h->sequence);
         if (!built(h->type)) r->code = INVALID_REQUEST;
         else if ((r->code = body_fault(c, value.n)) == 0) {
-            if (authorized(acl, connection[8], c)) perform(b, c, value, r);
+            scopes s = usable(acl, needed(h->type), connection[8]);
+            if (authorized(&s, c)) perform(b, &s, c, value, r);
             else r->code = NOT_AUTHORIZED;
         }
     }

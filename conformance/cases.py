@@ -1,8 +1,9 @@
-"""The sample cases of a folder (answers.jsonl, calls.jsonl, cr5.jsonl; README.md beside them has their form) as calls, with what each expects there to be
-after it.
+"""The sample cases of a folder (answers.jsonl, calls.jsonl, cr5.jsonl, cr2.jsonl; README.md beside them has their form) as calls, with what each expects
+there to be after it.
 
 The cases are another model's answers. They speak of a table, not of a record: one that a record can't hold is left out and counted. Those of answers.jsonl
-are older than change requests 1 and 5: one that sends messageType 24 or body field 6, or a field twice that may now come twice, is left out and counted too.
+are older than change requests 1, 2 and 5: one that sends messageType 24 or body field 6, or a field twice that may now come twice, is left out and counted
+too; request 2 changes the answer of none of them.
 """
 import json
 import pathlib
@@ -142,7 +143,7 @@ def block_case(entry, wanted):
 
 def read(folder):
     """Each case of a folder: its name, and the call with what is expected of things after it, or why it is left out."""
-    for name, made in ("answers.jsonl", answer_case), ("cr5.jsonl", answer_case), ("calls.jsonl", other_case):
+    for name, made in ("answers.jsonl", answer_case), ("cr5.jsonl", answer_case), ("cr2.jsonl", answer_case), ("calls.jsonl", other_case):
         for number, line in enumerate((pathlib.Path(folder) / name).read_text().splitlines()):
             said = json.loads(line)
             try:

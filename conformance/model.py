@@ -1,4 +1,4 @@
-"""A model of the box, written from document 01, change requests 1, 5 and 6, their readings (docs/DECISIONS.md) and the layouts of the device record, the
+"""A model of the box, written from document 01, change requests 1, 2, 5 and 6, their readings (docs/DECISIONS.md) and the layouts of the device record, the
 connection and the lent readings alone.
 
 Nothing here is taken from the Rattle code, so that the two can be held against each other. Store and device record are bytes, as the host lends them.
@@ -522,26 +522,27 @@ def fits(scope, key):
     return scope.value == b"" or key[scope.offset:scope.offset + len(scope.value)] == scope.value
 
 
+def usable(acl, protected, permission):
+    """The scopes that hold the permission and allow the connection."""
+    return [s for s in acl.scopes if permission in s.permissions and (protected or not s.tls)]
+
+
 def permits(acl, protected, permission, key):
-    """`key` is None for SETUP, GETLOG and SECURITY, which fit any key."""
-    return any(permission in s.permissions and (protected or not s.tls) and (key is None or fits(s, key)) for s in acl.scopes)
+    return any(fits(s, key) for s in usable(acl, protected, permission))
 
 
 NEEDED = {"GET": READ, "GETVERSION": READ, "GETNEXT": READ, "GETPREVIOUS": READ, "PUT": WRITE, "DELETE": DELETE, "GETKEYRANGE": RANGE,
           "SETUP": SETUP, "GETLOG": GETLOG, "SECURITY": SECURITY}
 KEYED = {"GET", "GETVERSION", "GETNEXT", "GETPREVIOUS", "PUT", "DELETE"}
+JUDGED = {"GET", "GETVERSION", "PUT", "DELETE"}  # by the key asked with; the others need a scope that is usable, whatever it fits (change request 2)
 
 
 def permitted(acl, protected, operation, body):
     if operation not in NEEDED:
         return True
-    if operation in KEYED:
-        keys = [body[1][3]]
-    elif operation == "GETKEYRANGE":
-        keys = [body[2][1], body[2][2]]
-    else:
-        keys = [None]
-    return all(permits(acl, protected, NEEDED[operation], key) for key in keys)
+    if operation in JUDGED:
+        return permits(acl, protected, NEEDED[operation], body[1][3])
+    return usable(acl, protected, NEEDED[operation]) != []
 
 
 # ---- Step 8
@@ -633,6 +634,16 @@ def delete(box, entries, part):
     return 1, message((1, b"")), b""
 
 
+def seen(entries, acl, protected, operation):
+    """The entries that an operation may come upon unasked: those whose key one usable scope fits (change request 2)."""
+    return [e for e in entries if permits(acl, protected, NEEDED[operation], e.key)]
+
+
+def nearest(entries, operation, key):
+    """The entry next above the key or below it, in a list."""
+    return [e for e in entries if e.key > key][:1] if operation == "GETNEXT" else [e for e in entries if e.key < key][-1:]
+
+
 def keys_in_range(entries, part):
     start, end, most = part[1], part[2], part.get(5, 32)
     keys = [e.key for e in entries if (e.key > start or part.get(3) and e.key == start) and (e.key < end or part.get(4) and e.key == end)]
@@ -664,7 +675,7 @@ def get_log(box, entries, readings, types):
     return 1, message((6, message(*parts))), b""
 
 
-def perform(box, readings, operation, body, value):
+def perform(box, acl, protected, readings, operation, body, value):
     entries = entries_of(box.store)
     if operation in KEYED:
         part = body[1]
@@ -673,15 +684,15 @@ def perform(box, readings, operation, body, value):
             return put(box, entries, part, value)
         if operation == "DELETE":
             return delete(box, entries, part)
-        found = {"GETNEXT": [e for e in entries if e.key > key][:1], "GETPREVIOUS": [e for e in entries if e.key < key][-1:]}.get(
-            operation, [e for e in entries if e.key == key])
+        found = [e for e in entries if e.key == key] if operation in JUDGED else nearest(seen(entries, acl, protected, operation), operation, key)
         if not found:
             return 7, b"", b""
         if operation == "GETVERSION":
             return 1, message((1, message((4, found[0].version or None)))), b""
         return key_value(found[0], part.get(7, False))
     if operation == "GETKEYRANGE":
-        return 1, message((2, message(*((8, key) for key in keys_in_range(entries, body[2]))))), b""
+        keys = keys_in_range(seen(entries, acl, protected, operation), body[2])
+        return 1, message((2, message(*((8, key) for key in keys)))), b""
     if operation == "GETLOG":
         return get_log(box, entries, readings, body[6][1])
     if operation == "SETUP" and 1 in body[3]:
@@ -742,7 +753,7 @@ def judge(box, acl, connection, readings, header, operation, body, value):
         return fault, b"", b""
     if not permitted(acl, connection.protected, operation, body):
         return 3, b"", b""
-    return perform(box, readings, operation, body, value)
+    return perform(box, acl, connection.protected, readings, operation, body, value)
 
 
 # ---- The calls

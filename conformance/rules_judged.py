@@ -268,9 +268,9 @@ def who(rows):
     rows.says("fit the key: its value is empty, or stands in the key at exactly its offset")
     for n, (key, fits) in enumerate(((b"xyztest1", True), (b"001test2", True), (b"somethingElse", False), (b"test123", False), (b"1234test", False))):
         for operation in KEYED:
-            nothing = {"GET": NOT_FOUND, "GETVERSION": NOT_FOUND, "GETNEXT": NOT_FOUND, "GETPREVIOUS": NOT_FOUND, "DELETE": NOT_FOUND}.get(operation, OK)
-            rows.row(f"W{n + 4} {operation} of {key.decode()}", nothing if fits else FORBIDDEN, keyed(operation, key), record=scoped(scope(ALL, 3, b"test")),
-                     store=bytes(1024))
+            judged = operation not in ("GETNEXT", "GETPREVIOUS")  # these two by the key shown: rules_tenants.py
+            rows.row(f"W{n + 4} {operation} of {key.decode()}", FORBIDDEN if judged and not fits else OK if operation == "PUT" else NOT_FOUND,
+                     keyed(operation, key), record=scoped(scope(ALL, 3, b"test")), store=bytes(1024))
     store = model.store_of([Entry(b"ab" * 32), Entry(b"a")], 1024)
     for key, offset, value, fits in ((b"ab" * 32, 63, b"b", True), (b"ab" * 32, 64, b"b", False), (b"ab" * 32, 64, b"", True),
                                      (b"ab" * 32, 0, b"ab" * 32, True),
@@ -294,18 +294,3 @@ def who(rows):
     for operation in "SETUP", "SECURITY", "GETLOG":
         rows.row(operation, OK, GOOD[operation], record=scoped(scope(ALL, 64, b"none")))
         rows.row(operation + ", TlsRequired", FORBIDDEN, GOOD[operation], record=scoped(scope(ALL, 64, b"none", True)))
-    rows.says("GETNEXT and GETPREVIOUS are judged by the key asked with; GETKEYRANGE by startKey and endKey, each through some scope")
-    for n, (key, value, wanted) in enumerate(((b"key0", b"key0", OK), (b"key0", b"key2", FORBIDDEN))):
-        rows.row(f"GETNEXT of key0, scope {value.decode()}", wanted, keyed("GETNEXT", key), record=scoped(scope({0}, 0, value)))
-        other = b"key2" if value == b"key0" else b"key0"
-        rows.row(f"GETPREVIOUS of key2, scope {other.decode()}", wanted, keyed("GETPREVIOUS", b"key2"), record=scoped(scope({0}, 0, other)))
-    a, b = scope({3}, 0, b"a"), scope({3}, 0, b"b")
-    for scopes, start, end, wanted in (((a, b), b"a1", b"b1", OK), ((a,), b"a1", b"b1", FORBIDDEN), ((b,), b"a1", b"b1", FORBIDDEN), ((a,), b"a1", b"a2", OK),
-                                       ((a, b), b"b1", b"a1", OK), ((a, b), b"", b"b1", FORBIDDEN), ((a, b), b"a1", b"", FORBIDDEN),
-                                       ((scope({3}),), b"", b"", OK),
-                                       ((a, scope({0})), b"a1", b"b1", FORBIDDEN), ((a, scope({3}, 0, b"b", True)), b"a1", b"b1", FORBIDDEN),
-                                       ((a, b), b"c", b"d", FORBIDDEN)):
-        rows.row(f"GETKEYRANGE {start!r} to {end!r}, scopes {[s.value for s in scopes]}", wanted, ranged(start, end), record=scoped(*scopes))
-    rows.says("GETKEYRANGE: keys in the range are not judged one by one")
-    rows.row("the keys between fit no scope", success(keys=[b"b"]), ranged(b"a", b"c"), record=scoped(a, scope({3}, 0, b"c")),
-             store=model.store_of([Entry(b"b")], 512))

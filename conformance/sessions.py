@@ -1,7 +1,8 @@
 """Seeded random calls. Each function plays one session: it gives calls, each with what is to be held of the box's own answers, and takes what there is
 after a call by document 01, from which it goes on. A session is drawn from its generator of random numbers alone, so that it can be played again.
 
-    sessions   several connections and identities, all operations, mostly good, so that state builds up; the store damaged and rescued from time to time
+    sessions   several connections and identities, all operations, mostly good, so that state builds up; in two of five boxes tenants, whose keys stand by
+               turns and who are shown some of them; the store damaged and rescued from time to time
     damaged    the same with messages damaged: bits turned, bytes cut, put in, moved; with and without signing again
     unknown    the same with unlisted fields put in at every depth, and with fields sent again: the box answers as it does without; in the security part
                an unlisted field, a singular one sent again, or a second Security is INVALID_REQUEST
@@ -19,9 +20,11 @@ from messages import HEADER, KEYVALUE, Field, Fixed, encoded, levels, part, repl
 MOST, LEAST = (1 << 63) - 1, -1 << 63
 EDGES = [0, 1, 2, 3, 5, 9, 32, 33, 63, 64, 65, 127, 128, 255, 256, (1 << 31) - 1, 1 << 31, 1 << 32, MOST, -1, -2, -(1 << 31), -(1 << 31) - 1, LEAST]
 LENGTHS = [0, 1, 2, 15, 16, 17, 31, 32, 33, 63, 64, 65, 66, 383, 384, 385]
-OPERATIONS = {"PUT": 30, "GET": 8, "GETVERSION": 4, "GETNEXT": 6, "GETPREVIOUS": 6, "GETKEYRANGE": 10, "DELETE": 12, "SETUP": 3, "GETLOG": 7, "SECURITY": 4,
+OPERATIONS = {"PUT": 30, "GET": 8, "GETVERSION": 4, "GETNEXT": 9, "GETPREVIOUS": 9, "GETKEYRANGE": 14, "DELETE": 12, "SETUP": 3, "GETLOG": 7, "SECURITY": 4,
               "NOOP": 3, "FLUSHALLDATA": 2}
 PART = {**dict.fromkeys(("PUT", "GET", "GETVERSION", "GETNEXT", "GETPREVIOUS", "DELETE"), 1), "GETKEYRANGE": 2, "SETUP": 3, "GETLOG": 6, "SECURITY": 7}
+# What a tenant may do with any key: all but to read and list.
+ANY_KEY = frozenset(model.PERMISSIONS - {model.READ, model.RANGE})
 # Bits of f32: zeros, subnormals, ends, infinities, no numbers, and numbers near those that a site has.
 BITS = [0, 1 << 31, 1, 0x80000001, 0x007fffff, 0x00800000, 0x7f7fffff, 0xff7fffff, 0x7f800000, 0xff800000, 0x7fc00000, 0x7f800001, 0xffffffff, 0x3f800000,
         0x3f000000, 0x42000000, 0x41ffffff, 0x42000001, 0x42c53333, 0x43540000, 0xc3e5d5c3, 0x7e4ccccc, 0x7e4ccccd, 0x4e000001, 0x4e000002]
@@ -32,6 +35,7 @@ class Site:
 
     def __init__(self, r):
         self.r = r
+        self.shared = r.random() < .4  # by tenants
         self.keys = self.drawn_keys()
         self.store = self.drawn_store()
         self.record = self.drawn_record()
@@ -45,6 +49,8 @@ class Site:
 
     def drawn_keys(self):
         r = self.r
+        if self.shared:
+            return [b"%02d/" % n + whose for n in range(r.choice((3, 6, 12))) for whose in (b"a", b"b", b"c")[:r.choice((2, 3))]]
         keys = [b"a", b"ab", b"abc", b"b", b"\0", b"\xff" * 64, b"a" * 64, b"a\0", b"key", b"key0", b"key1"]
         return r.sample(keys, r.choice((3, 5, 8, 11))) + [b"k" + self.some(63) for _ in range(r.choice((0, 0, 3, 30)))]
 
@@ -54,8 +60,8 @@ class Site:
 
     def drawn_store(self):
         r = self.r
-        blocks = r.choice((1, 2, 3, 4, 4, 6, 8, 12) * 6 + (40, 127, 128))
-        if blocks > 12:
+        blocks = r.choice((6, 12, 24, 40) if self.shared else (1, 2, 3, 4, 4, 6, 8, 12) * 6 + (40, 127, 128))
+        if blocks > 12 and not self.shared:
             self.keys = [b"k%03d" % n + self.some(8) for n in range(150)]
         used = r.sample(self.keys, min(len(set(self.keys)), r.choice((0, 1, blocks // 2, blocks, blocks))))
         return model.store_of([self.entry(key) for key in sorted(set(used))[:blocks]], blocks * model.BLOCK)
@@ -66,10 +72,19 @@ class Site:
         value = b"" if r.random() < .6 else r.choice(self.keys)[:r.choice((1, 1, 2, 64))]
         return model.Scope(frozenset(permissions), r.choice((0, 0, 0, 0, 1, 3, 64)), value, r.random() < .15)
 
+    def narrow(self):
+        """A scope to read or list by, or both, that fits those keys alone which have the same bytes at a place as one of them."""
+        r, key = self.r, self.r.choice(self.keys)
+        place = r.choice((0, 3, 3, 3, r.randrange(6))) % len(key)
+        permissions = r.choice(({model.READ, model.RANGE}, {model.READ, model.RANGE}, {model.READ}, {model.RANGE}))
+        return model.Scope(frozenset(permissions), place, key[place:place + r.choice((1, 1, 1, 1, 2, 64))], r.random() < .2)
+
     def acl(self, identity):
         r = self.r
         scopes = tuple(self.scope() for _ in range(r.choice((1, 1, 1, 2, 4))))
-        if r.random() < .6:
+        if r.random() < (.7 if self.shared else .1):
+            scopes = (model.Scope(ANY_KEY), *(self.narrow() for _ in range(r.choice((1, 2, 2, 3)))))
+        elif r.random() < .6:
             scopes = (model.Scope(frozenset(model.PERMISSIONS)),) + scopes[1:]
         return model.Acl(identity, bytes(r.randrange(256) for _ in range(r.choice((1, 5, 20, 20, 63, 64)))), scopes)
 
@@ -157,6 +172,8 @@ class Site:
             ends.sort()
         if r.random() < .2:
             ends[1] = ends[0]
+        elif r.random() < .3:
+            ends = [b"", b"\xff" * 64]
         return tree((1, ends[0]), (2, ends[1]), *((number, r.choice((None, 0, 1, 2))) for number in (3, 4)), (5, r.choice((None, None, 0, 1, 2, 3, 31, 32))),
                     (6, r.choice((None, 0, 1))))
 
@@ -180,6 +197,9 @@ class Site:
         table, its = model.table_of(self.record), model.connection_of(connection)
         operation = r.choices(list(OPERATIONS), list(OPERATIONS.values()))[0]
         acl = r.choice(table.acls)
+        tenants = [acl for acl in table.acls if acl.scopes[0].permissions == ANY_KEY]
+        if operation in ("GETNEXT", "GETPREVIOUS", "GETKEYRANGE") and tenants and r.random() < .7:
+            acl = r.choice(tenants)
         sequence = r.choice((0, 1, -5, 1 << 40)) if its.last is None else min(MOST, its.last + r.choice((1, 1, 1, 2, 100)))
         cluster = table.cluster if table.cluster or r.random() < .2 else None
         made = request(operation, self.body(operation), self.some(384) if operation == "PUT" else b"", acl.identity, acl.key, its.number, sequence, cluster)

@@ -1,5 +1,5 @@
 #!/usr/bin/env python3
-"""The lines that examples/box.c must print, from document 01 and change requests 1, 5 and 6 alone: W1, W2 and "Replies", with Python's hmac."""
+"""The lines that examples/box.c must print, from document 01 and change requests 1, 2, 5 and 6 alone: W1, W2 and "Replies", with Python's hmac."""
 import hashlib
 import hmac
 

@@ -199,11 +199,12 @@ ALL = sorted(model.PERMISSIONS)
 HOST_KEY, OFFICE_KEY = b"key of the host", b"the office's own key"
 TIMER_KEYS = b"timer one, crew A", b"timer two, crew B"
 TABLET_KEY = b"supervisor's tablet"
+LAUNDRY_KEYS = b"tablet of laundry 1", b"tablet of laundry 2"
 
 
-def table(extra=b"", algorithm=None):
+def table(extra=b"", algorithm=None, more=()):
     """The office may do all where the connection is protected; a timer writes under its own prefix; the tablet reads."""
-    return security(acl(1, OFFICE_KEY, scope(ALL, tls=1)),
+    return security(*more, acl(1, OFFICE_KEY, scope(ALL, tls=1)),
                     acl(101, TIMER_KEYS[0], scope([model.WRITE], b"t1/"), extra=extra),
                     acl(102, TIMER_KEYS[1], scope([model.WRITE, model.DELETE], b"t2/", 0)),
                     acl(-7, TABLET_KEY, scope([model.READ, model.RANGE]), algorithm=algorithm))
@@ -380,6 +381,45 @@ def edited(day, office, timers, tablet):
     assert code_of(two.look("DELETE", b"t2/084000", old=b"2").reply) == 1
 
 
+def shared(day, office, timers, tablet, laundries):
+    """Their keys stand by turns: the time, then whose it is. Over a protected connection the second may read the first's too."""
+    one, two = laundries
+    day.title("Two laundries share the box, and each tablet asks past its own keys")
+    day.time = "08:50"
+    own = [model.READ, model.WRITE, model.RANGE]
+    office.ask("SECURITY", table(more=(acl(201, LAUNDRY_KEYS[0], scope(own, b"/one", 4)),
+                                       acl(202, LAUNDRY_KEYS[1], scope(own, b"/two", 4), scope([model.READ], b"/one", 4, 1)))), "two laundries more")
+
+    def shows(got, key):
+        return (code_of(got.reply) == 7) if key is None else command_of(got.reply)[2][1][3] == key
+
+    def lists(got, *keys):
+        return code_of(got.reply) == 1 and command_of(got.reply)[2][2].get(8, []) == list(keys)
+
+    one.connect()
+    two.connect()
+    for n in range(3):
+        for laundry, whose in zip(laundries, ("one", "two")):
+            assert code_of(laundry.put(f"085{n}/{whose}".encode(), reading(30 + n)).reply) == 1
+    assert shows(one.look("GETNEXT", b"0850/one"), b"0851/one") and shows(one.look("GETNEXT", b"0852/one"), None)
+    assert shows(one.look("GETPREVIOUS", b"0850/one"), None) and shows(one.look("GETPREVIOUS", b"t1/080000"), b"0852/one")
+    assert shows(two.look("GETPREVIOUS", b"0850/two"), None) and shows(two.look("GETNEXT", b"0852/two"), None)
+    assert shows(two.look("GETNEXT", b"0851/one", "0851/one, which is not its own"), b"0851/two")
+    assert lists(one.range(b"", b"~", "everything"), b"0850/one", b"0851/one", b"0852/one")
+    assert lists(two.range(b"", b"~", "everything, backwards, 2 at most", most=2, reverse=1), b"0852/two", b"0851/two")
+    assert lists(two.range(b"0850/one", b"~", "from 0850/one, 1 at most", most=1), b"0850/two")
+    assert lists(one.range(b"0850/two", b"0851/", "the other's between its own"))
+    assert code_of(one.look("GET", b"0850/two").reply) == 3
+    assert code_of(timers[0].look("GETNEXT", b"t1/080000", "t1/080000: it may write, not read").reply) == 3
+    assert code_of(timers[0].range(b"t1/", b"t1/~", "t1/ to t1/~: likewise").reply) == 3
+    assert shows(tablet.look("GETNEXT", b"0852/two"), b"t1/080000")
+    assert shows(two.look("GETPREVIOUS", b"0852/two"), b"0851/two")
+    two.protected = True
+    two.connect(two.number + 10)
+    assert shows(two.look("GETPREVIOUS", b"0852/two", "0852/two, protected"), b"0852/one")
+    assert lists(two.range(b"", b"~", "everything, protected"), b"0850/two", b"0851/two", b"0852/two")
+
+
 def limits(day, office, plain):
     day.title("Keys of 0, 1, 64 and 65 bytes, values of 384 and 385")
     day.time = "09:00"
@@ -504,6 +544,7 @@ def made():
     timers = Client(day, 1, "timer 1", 101, TIMER_KEYS[0], 11), Client(day, 2, "timer 2", 102, TIMER_KEYS[1], 12)
     tablet = Client(day, 3, "tablet", -7, TABLET_KEY, 13)
     plain = Client(day, 4, "office", 1, OFFICE_KEY, 3)
+    laundries = Client(day, 6, "laundry 1", 201, LAUNDRY_KEYS[0], 14), Client(day, 7, "laundry 2", 202, LAUNDRY_KEYS[1], 15)
     set_up(day, office, plain, tablet)
     readings(day, timers, office)
     reading_back(day, tablet)
@@ -511,6 +552,7 @@ def made():
     newer_firmware(day, timers, tablet)
     the_log(day, office, timers, tablet)
     edited(day, office, timers, tablet)
+    shared(day, office, timers, tablet, laundries)
     limits(day, office, plain)
     cluster(day, office, timers)
     full(day, office, timers, tablet)

@@ -4,7 +4,7 @@
     python3 tests/verdicts.py          writes it
     python3 tests/verdicts.py --check  says whether crates/program_permission/stdout is it
 
-Each cell worked out by hand is also compared with document 01's rule, computed here from the page's table of scopes.
+Each cell worked out by hand is also compared with the rule of document 01 and change request 2, computed here from the page's table of scopes.
 """
 
 import pathlib
@@ -30,14 +30,12 @@ def fits(scope, key):
     return value == "" or key[at:at + len(value)] == value
 
 
-def verdict(scopes, asked, keys, protected):
-    """Document 01, "Who may"."""
+def verdict(scopes, asked, key, protected):
+    """Document 01, "Who may"; without a key, any scope that is usable."""
     if not scopes:
         return "nobody"
     usable = [s for s in scopes if asked in s["permissions"] and (protected or s["tls"] == "no")]
-    if asked in ("SETUP", "SECURITY"):
-        keys = [None]
-    return "yes" if all(any(k is None or fits(s, k) for s in usable) for k in keys) else "no"
+    return "yes" if any(key is None or fits(s, key) for s in usable) else "no"
 
 
 def main():
@@ -47,12 +45,12 @@ def main():
         scope = {"permissions": permissions.split(", "), "offset": offset, "value": quoted(value)[0], "tls": tls}
         table.setdefault(identity, []).append(scope)
     out = []
-    for identity, asked, keys, plain, protected, _ in rows(page, "The verdicts"):
-        names = quoted(keys)
+    for identity, asked, key, plain, protected, _ in rows(page, "The verdicts"):
+        names = quoted(key)
         for connection, cell in (("plain", plain), ("protected", protected)):
-            rule = verdict(table.get(identity), asked, names, connection == "protected")
+            rule = verdict(table.get(identity), asked, names[0] if names else None, connection == "protected")
             if rule != cell:
-                sys.exit(f"{identity} {asked} {keys} {connection}: the page says {cell}, the rule {rule}")
+                sys.exit(f"{identity} {asked} {key} {connection}: the page says {cell}, the rule {rule}")
             out.append(" ".join([identity, asked] + [f'"{n}"' for n in names] + [connection, cell]) + "\n")
     text = "".join(out)
     if sys.argv[1:] == ["--check"]:

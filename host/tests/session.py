@@ -29,6 +29,7 @@ def steps(protected):
     yield 1, "SECURITY", table_tree(TABLE), b"", 1
     yield from puts(tls)
     yield from looks()
+    yield from neighbours(tls)
     yield from deletes()
     yield from logs(tls)
     yield 7, "SETUP", setup(5), b"", 3
@@ -79,8 +80,24 @@ def looks():
     yield -20, "GETKEYRANGE", span(b"timer/", b"timer/~"), b"", 1
     yield -20, "GETKEYRANGE", span(b"timer/", b"timer/~", most=2, reverse=1), b"", 1
     yield -20, "GETKEYRANGE", span(b"timer/7/a", b"timer/8/2", None, None), b"", 1
-    yield -20, "GETKEYRANGE", span(b"", b"timer/"), b"", 3
     yield 1, "GETKEYRANGE", span(b"", b"\xff", most=33), b"", 16
+
+
+def neighbours(tls):
+    """From outside one's scopes, past the last key that they fit and before the first; without the permission."""
+    yield -20, "GETKEYRANGE", span(b"", b"timer/"), b"", 1
+    yield -20, "GETKEYRANGE", span(b"", b"\xff", most=1), b"", 1
+    yield -20, "GETNEXT", pair(b"\0"), b"", 1
+    yield -20, "GETPREVIOUS", pair(b"timer/7/a"), b"", 7
+    yield -20, "GETNEXT", pair(b"timer/9"), b"", 7
+    yield 7, "GETNEXT", pair(b"a"), b"", 1
+    yield 7, "GETNEXT", pair(b"timer/7/a"), b"", 7
+    yield 7, "GETPREVIOUS", pair(b"timer/8/3"), b"", 1
+    yield 7, "GETKEYRANGE", span(b"timer/7/", b"timer/7/~"), b"", 3
+    yield 1 << 40, "GETNEXT", pair(b"a"), b"", tls
+    yield 1 << 40, "GETPREVIOUS", pair(b"z"), b"", tls
+    yield 1 << 40, "GETKEYRANGE", span(b"", b"\xff"), b"", tls
+    yield 7, "GETKEYRANGE", span(b"", b"\xff", most=33), b"", 16
 
 
 def deletes():

@@ -32,10 +32,7 @@ grants counts k protected p s = holds s p && (allows s protected && (not counts 
 unfoldable pub permits : Acl → Bool → ℕ → List ℕ → Bool
 permits a protected p k = any (grants true k protected p) (a .scopes)
 
--- "SETUP and SECURITY fit any key": the verdict with no key, some scope holds the permission and allows the connection
+-- the verdict with no key, some scope holds the permission and allows the connection: "SETUP and SECURITY fit any key"; document 02, CR 2: a
+-- "scope with the permission that this connection may use"
 unfoldable pub permitsAny : Acl → Bool → ℕ → Bool
 permitsAny a protected p = any (grants false [] protected p) (a .scopes)
-
--- "GETKEYRANGE by startKey and endKey, each through some scope".
-unfoldable pub permitsRange : Acl → Bool → ℕ → List ℕ → List ℕ → Bool
-permitsRange a protected p start end = permits a protected p start && permits a protected p end

@@ -1,41 +1,59 @@
 -- The value of a scope in the key.
 use mathlib.Core.Path.{_≡_, refl, sym, ap, ap₂, _∙_}
-use mathlib.Core.Bool.{true, false, _&&_}
+use mathlib.Core.Bool.{true, false}
 use mathlib.Core.List.{List}
 use Prim.Native.Nat.{ℕ, zero, suc, _+_, _-_, _≤_, _<_}
-use native.Mathlib.Nat.{not-suc-le-zero}
-use native.Mathlib.Numerals.{add-one}
 use native.Mathlib.Omega.{arith}
-use lib.Dec.{eqb}
-use lib.ListN.{length, take, drop, getD, drop-of-length-le}
-use lib.Seq.{drop-cons}
+use native.Mathlib.Nat.{add-sub-cancel-left}
+use lib.ListN.{length, take, drop, getD, length-take, length-drop}
+use lib.Seq.{getD-take, getD-drop}
 use Rattle.base_definitions.specs.Lists.{sameBytes}
+use Rattle.base_definitions.specs.ListLaws.{sameBytes-is}
 use Rattle.access_record.specs.Record.{bytesAt}
-use Rattle.access_record.specs.TableLaws.{length-bytesAt}
+use Rattle.access_record.specs.TableLaws.{length-bytesAt, bytes-part}
 use Rattle.access_permission.specs.Permission.{fitsAt}
-use Rattle.access_scope.specs.Runs.{runs}
 
-pub fits-runs : (l : List ℕ) (a n o : ℕ) (k : List ℕ) → runs l a n k o ≡ fitsAt (bytesAt l a n) o k
-unfolding fitsAt sameBytes bytesAt
-fits-runs l a zero o k = refl
-fits-runs l a (suc n) o k =
-    ap (λ (m : ℕ). sameBytes (bytesAt l a (suc n)) (take m (drop o k))) (sym (length-bytesAt l a (suc n)))
+pub fits-empty : (l : List ℕ) (a n o : ℕ) (k : List ℕ) → n ≡ 0 → true ≡ fitsAt (bytesAt l a n) o k
+unfolding fitsAt bytesAt
+fits-empty l a zero o k e = refl
+fits-empty l a (suc n) o k e = absurd (omega arith)
 
-pub runs-turn : (l : List ℕ) (a n : ℕ) (k : List ℕ) (p : ℕ) → 0 < n → p < length k
-    → runs l a n k p ≡ (eqb (getD l a 0) (getD k p 0) && runs l (a + 1) (n - 1) k (p + 1))
-unfolding sameBytes bytesAt
-runs-turn l a zero k p h g = absurd (not-suc-le-zero h)
-runs-turn l a (suc n) k p h g =
-    let e : n ≡ suc n - 1 = omega arith in
-    ap (λ (x : List ℕ). sameBytes (bytesAt l a (suc n)) (take (suc n) x)) (drop-cons k p 0 g)
-    ∙ ap₂ (λ (m q : ℕ). (eqb (getD l a 0) (getD k p 0) && sameBytes (bytesAt l (a + 1) m) (take m (drop q k)))) e (sym (add-one p))
+module _ (l : List ℕ) (a n o : ℕ) (k : List ℕ) (some : n ≡ 0 → ⊥) where
+  fits-same : sameBytes (bytesAt l a n) (take n (drop o k)) ≡ fitsAt (bytesAt l a n) o k
+  unfolding fitsAt bytesAt
+  fits-same = go n some
+    where
+      go : (n : ℕ) → (n ≡ 0 → ⊥) → sameBytes (bytesAt l a n) (take n (drop o k)) ≡ fitsAt (bytesAt l a n) o k
+      go zero h = absurd (h refl)
+      go (suc n) h = ap (λ (m : ℕ). sameBytes (bytesAt l a (suc n)) (take m (drop o k))) (sym (length-bytesAt l a (suc n)))
 
-pub runs-short : (l : List ℕ) (a n : ℕ) (k : List ℕ) (p : ℕ) → 0 < n → length k ≤ p → runs l a n k p ≡ false
-unfolding sameBytes bytesAt
-runs-short l a zero k p h g = absurd (not-suc-le-zero h)
-runs-short l a (suc n) k p h g = ap (λ (x : List ℕ). sameBytes (bytesAt l a (suc n)) (take (suc n) x)) (drop-of-length-le k g)
+  differ : (bytesAt l a n ≡ take n (drop o k) → ⊥) → false ≡ fitsAt (bytesAt l a n) o k
+  differ h = sameBytes-is false (bytesAt l a n) (take n (drop o k)) (λ e. cc) (λ e. absurd (h e)) ∙ fits-same
 
-pub runs-end : (l : List ℕ) (a n : ℕ) (k : List ℕ) (p : ℕ) → n ≤ 0 → runs l a n k p ≡ true
-unfolding sameBytes bytesAt
-runs-end l a zero k p h = refl
-runs-end l a (suc n) k p h = absurd (omega arith)
+  pub fits-short : length k < o + n → false ≡ fitsAt (bytesAt l a n) o k
+  fits-short h = differ (λ e. let z : n ≡ length (take n (drop o k)) = sym (length-bytesAt l a n) ∙ ap length e in some (omega (arith, z, length-take n (drop o k), length-drop o k)))
+
+  pub fits-last : a + n ≤ length l → (getD l (a + n - 1) 0 ≡ getD k (o + n - 1) 0 → ⊥) → false ≡ fitsAt (bytesAt l a n) o k
+  fits-last h d =
+      differ (λ e.
+      d
+      (last-at a l
+      ∙ ap (λ (x : List ℕ). getD x (n - 1) 0) (sym (bytes-part l a n h) ∙ e)
+      ∙ sym (last-at o k)))
+    where
+      go : (n : ℕ) → (n ≡ 0 → ⊥) → n - 1 < n
+      go zero h = absurd (h refl)
+      go (suc n) h = omega arith
+
+      last-at : (i : ℕ) (x : List ℕ) → getD x (i + n - 1) 0 ≡ getD (take n (drop i x)) (n - 1) 0
+      last-at i x =
+          let p : n - 1 < n = go n some in
+          let z : i + n - 1 ≡ i + (n - 1) = omega arith in
+          ap (λ (j : ℕ). getD x j 0) z ∙ sym (getD-take n (drop i x) (n - 1) 0 p ∙ getD-drop i x (n - 1) 0)
+
+  -- the parts of the record and of the key, as the code cuts them out
+  pub fits-whole : a + n ≤ length l → sameBytes (take (a + n - a) (drop a l)) (take (o + n - o) (drop o k)) ≡ fitsAt (bytesAt l a n) o k
+  fits-whole h =
+      ap₂ (λ (i j : ℕ). sameBytes (take i (drop a l)) (take j (drop o k))) (add-sub-cancel-left a n) (add-sub-cancel-left o n)
+      ∙ ap (λ (x : List ℕ). sameBytes x (take n (drop o k))) (sym (bytes-part l a n h))
+      ∙ fits-same

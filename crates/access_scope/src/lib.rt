@@ -7,6 +7,7 @@ ghost use Rattle.base_definitions.specs.Bits.{bit};
 ghost use Rattle.access_record.specs.Record.{bytesAt};
 ghost use Rattle.access_permission.specs.Permission.{fitsAt};
 use access_record::Record;
+use base_bytes::same;
 
 pub fn holds(mask: usize, permission: u8) -> bool
     requires { ⌜ permission < 16 ⌝ }
@@ -25,24 +26,23 @@ pub fn allows(tls: u8, protected: bool) -> bool
     tls == 0
 }
 
-// The value of n bytes at a is empty, or stands in the key at exactly the offset.
+// The value of n bytes at a is empty, or stands in the key at exactly the offset. Keys that differ mostly differ at their ends: the last byte is
+// looked at first.
 pub fn fits_at(device: &Record, a: usize, n: usize, key: &[u8], offset: usize) -> bool
     requires { ⌜ (a + n ≤ 2960) × (offset ≤ 64) ⌝ }
     ensures { λ r. ⌜ r ≡ fitsAt (bytesAt (now (device .entry)) a n) offset (now (key .entry)) ⌝ }
 {
-    let mut at = a;
-    let mut left = n;
-    let mut p = offset;
-    while 0 < left {
-        if key.len() <= p {
-            return false;
-        }
-        if device[at] != key[p] {
-            return false;
-        }
-        at += 1;
-        left -= 1;
-        p += 1;
+    if n == 0 {
+        return true;
     }
-    true
+    let end = offset + n;
+    if key.len() < end {
+        return false;
+    }
+    let record = &device[..];
+    let stop = a + n;
+    if record[stop - 1] != key[end - 1] {
+        return false;
+    }
+    same(&record[a..stop], &key[offset..end])
 }

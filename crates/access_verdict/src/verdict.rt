@@ -3,7 +3,7 @@ ghost use mathlib.Core.Path.{_≡_};
 ghost use Prim.Native.Nat.{_<_};
 ghost use Rattle.access_record.specs.Table.{aclOf};
 ghost use Rattle.access_record.specs.Record.{tableOf, Placed};
-ghost use Rattle.access_permission.specs.Permission.{permits, permitsAny, permitsRange};
+ghost use Rattle.access_permission.specs.Permission.{permits, permitsAny};
 use crate::grants::acl_grants;
 use access_record::Record;
 
@@ -15,29 +15,11 @@ pub fn permits(device: &Record, place: usize, protected: bool, permission: u8, k
     acl_grants(device, place, true, key, protected, permission)
 }
 
-// The same with no key: SETUP, SECURITY and GETLOG fit any.
+// The same with no key.
 pub fn permits_any(device: &Record, place: usize, protected: bool, permission: u8) -> bool
     requires { ⌜ Placed (now device) place × (permission < 16) ⌝ }
     ensures { λ r. ⌜ r ≡ permitsAny (aclOf (tableOf (now (device .entry))) place) protected permission ⌝ }
 {
     let none = [0u8; 0];
     acl_grants(device, place, false, &none, protected, permission)
-}
-
-// The same for a range: some scope for the start key and some scope for the end key.
-pub fn permits_range(
-    device: &Record,
-    place: usize,
-    protected: bool,
-    permission: u8,
-    start: &[u8],
-    end: &[u8],
-) -> bool
-    requires { ⌜ Placed (now device) place × (permission < 16) ⌝ }
-    ensures { λ r. ⌜ r ≡ permitsRange (aclOf (tableOf (now (device .entry))) place) protected permission (now (start .entry)) (now (end .entry)) ⌝ }
-{
-    if !permits(device, place, protected, permission, start) {
-        return false;
-    }
-    permits(device, place, protected, permission, end)
 }

@@ -1,6 +1,7 @@
 -- Tests of lists and numbers.
-use mathlib.Core.Bool.{Bool, true, false, _&&_, _||_}
-use mathlib.Core.List.{List, [], _∷_, _++_}
+use mathlib.Core.Bool.{Bool, true, false, cond, _&&_, _||_}
+use mathlib.Core.List.{List, [], _∷_, _++_, reverse}
+use mathlib.Core.Option.{Option, none, some}
 use Prim.Native.Nat.{ℕ, _-_}
 use lib.Dec.{eqb, leb}
 use lib.ListN.{length, replicate}
@@ -16,6 +17,18 @@ any f (x ∷ xs) = f x || any f xs
 unfoldable pub mapL : {A B : Type 0} → (A → B) → List A → List B
 mapL f [] = []
 mapL f (x ∷ xs) = f x ∷ mapL f xs
+
+-- those that pass a test, in their order
+unfoldable pub only : {A : Type 0} → (A → Bool) → List A → List A
+only f [] = []
+only f (x ∷ xs) = cond (f x) (x ∷ only f xs) (only f xs)
+
+abbrev pub first : {A : Type 0} → List A → Option A
+first [] = none
+first (x ∷ xs) = some x
+
+abbrev pub last : {A : Type 0} → List A → Option A
+last xs = first (reverse xs)
 
 -- a number from a to b
 abbrev pub within : ℕ → ℕ → ℕ → Bool

@@ -58,10 +58,10 @@ module _ (s : State) (acl : access.Acl) (x : Choice) (b : c.Body) (v : List ℕ)
   by-code = f ∙ ap (λ (p : Bool). admission acl p x b v) (sym w)
 
   pub not-admitted : (code ≡ 0 → ⊥) → Sent (replied a by (fails s code)) n out out' s → Sent (replied a by (served s acl x b v)) n out out' s
-  not-admitted h g = sent-as a by (failed s (step10 s (x .operation) b v) code by-code h ∙ sym (served-by s acl x b v)) g
+  not-admitted h g = sent-as a by (failed s (step10 s acl (x .operation) b v) code by-code h ∙ sym (served-by s acl x b v)) g
 
-  pub done : code ≡ 0 → (after : State) → Sent (replied a by (step10 s (x .operation) b v)) n out out' after → Sent (replied a by (served s acl x b v)) n out out' after
-  done z after g = sent-as a by (passed s (step10 s (x .operation) b v) (sym by-code ∙ z) ∙ sym (served-by s acl x b v)) g
+  pub done : code ≡ 0 → (after : State) → Sent (replied a by (step10 s acl (x .operation) b v)) n out out' after → Sent (replied a by (served s acl x b v)) n out out' after
+  done z after g = sent-as a by (passed s (step10 s acl (x .operation) b v) (sym by-code ∙ z) ∙ sym (served-by s acl x b v)) g
 
 -- ---- step 7
 

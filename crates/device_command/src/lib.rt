@@ -15,7 +15,7 @@ use reply_send::close::Replied;
 use reply_send::send::status;
 use request_command::Body;
 use request_command::Request;
-use request_command::numbers::signed_or;
+use request_numbers::signed_or;
 ghost use mathlib.Core.Path.{_≡_};
 ghost use mathlib.Core.Bool.{true, cond};
 ghost use mathlib.Core.Option.{Option, none, some};
@@ -63,9 +63,11 @@ struct Heading {
     asked: Asked,
 }
 
-// A request that passed steps 4 to 6: who sent it, what it asks for, with what body, and to whom the reply goes.
+// A request that passed steps 4 to 6: for whom (the place of the ACL, and whether the connection is protected), what it asks for, with what body, and to whom
+// the reply goes.
 struct Accepted {
-    sender: Sender,
+    acl: usize,
+    protected: bool,
     asked: Asked,
     body: Body,
     reply_to: ReplyTo,
@@ -82,12 +84,12 @@ fn admit_and_perform(
     out: &mut [u8],
     signing_key: &[u8],
 ) -> usize
-    requires { ⌜ (4096 ≤ length (now out)) × (length (now «signing_key») ≤ 64) × Good (now store) × Placed (now device) (accepted .sender .acl)
+    requires { ⌜ (4096 ≤ length (now out)) × (length (now «signing_key») ≤ 64) × Good (now store) × Placed (now device) (accepted .acl)
         × BodyLies (now command) (accepted .body) × (readingsGood (now readings) ≡ true) × (askedNumbered (accepted .asked) ≡ true) ⌝ }
-    ensures { λ r. ⌜ ((c : state.Connection) (type : Option ℕ) → c .protected ≡ accepted .sender .connection .protected
+    ensures { λ r. ⌜ ((c : state.Connection) (type : Option ℕ) → c .protected ≡ accepted .protected
         → accepted .asked ≡ askedBy type → let body = bodyView (now (command .entry)) (accepted .body) in
         Answers (λ s. replied (accepted .«reply_to») (now («signing_key» .entry))
-        (rest s (aclOf (table s) (accepted .sender .acl)) type body (now (value .entry))))
+        (rest s (aclOf (table s) (accepted .acl)) type body (now (value .entry))))
         (before store device readings c) out r (after store device readings c)) ⌝ }
 {
     let asked = accepted.asked;
@@ -96,8 +98,8 @@ fn admit_and_perform(
             let refusal = judge_admission::admit(
                 choice,
                 device,
-                accepted.sender.acl,
-                accepted.sender.connection.protected,
+                accepted.acl,
+                accepted.protected,
                 command,
                 accepted.body,
                 value.len(),
@@ -111,6 +113,8 @@ fn admit_and_perform(
             let job = Job {
                 operation,
                 body,
+                acl: accepted.acl,
+                protected: accepted.protected,
                 reply_to,
             };
             perform::perform(
@@ -202,7 +206,8 @@ fn answer_request(
     }
     let body = received.request.body;
     let accepted = Accepted {
-        sender,
+        acl: sender.acl,
+        protected: connection.protected,
         asked,
         body,
         reply_to,

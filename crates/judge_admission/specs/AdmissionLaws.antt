@@ -15,8 +15,8 @@ use Rattle.judge_admission.specs.Admission.{both, admission}
 
 -- steps 8 to 10 by that code
 pub served-by : (s : State) (a : Acl) (x : Choice) (b : Body) (v : List ℕ)
-    → served s a x b v ≡ cond (eqb (admission a (s .connection .protected) x b v) 0) (step10 s (x .operation) b v) (fails s (admission a (s .connection .protected) x b v))
-served-by s a x b v = go (step10 s (x .operation) b v) (fault (x .operation) b v) (eqb (fault (x .operation) b v) 0) refl (permitted a (s .connection .protected) (x .permission) b)
+    → served s a x b v ≡ cond (eqb (admission a (s .connection .protected) x b v) 0) (step10 s a (x .operation) b v) (fails s (admission a (s .connection .protected) x b v))
+served-by s a x b v = go (step10 s a (x .operation) b v) (fault (x .operation) b v) (eqb (fault (x .operation) b v) 0) refl (permitted a (s .connection .protected) (x .permission) b)
   where
     go : (r : Result) (m : ℕ) (t : Bool) → eqb m 0 ≡ t → (y : Bool)
         → cond (eqb m 0) (cond y r (fails s 3)) (fails s m) ≡ cond (eqb (both m y) 0) r (fails s (both m y))

@@ -35,16 +35,12 @@ pub fn admit(
     }
     let permission = choice.permission;
     let key = body.entry.key.start;
-    let start = body.range.start.start;
-    let end = body.range.end.start;
     if !judge_permission::permitted(
         device,
         acl,
         protected,
         permission,
         &command[key..key + body.entry.key.len],
-        &command[start..start + body.range.start.len],
-        &command[end..end + body.range.end.len],
     ) {
         return NOT_AUTHORIZED;
     }

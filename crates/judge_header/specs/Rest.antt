@@ -12,7 +12,7 @@ use Rattle.protocol.specs.Judge.{Result, step7, step8, step9, step10}
 
 -- steps 8 to 10 of a request
 abbrev pub served : State → access.Acl → Choice → Body → List ℕ → Result
-served s a x b v = step8 s (x .operation) b v (step9 s a (x .permission) b (step10 s (x .operation) b v))
+served s a x b v = step8 s (x .operation) b v (step9 s a (x .permission) b (step10 s a (x .operation) b v))
 
 -- steps 7 to 10, the sequence accepted
 abbrev pub rest : State → access.Acl → Option ℕ → Body → List ℕ → Result

@@ -54,17 +54,17 @@ pub fn asked(n: u64) -> Asked
         }),
         GETNEXT => Asked::Request(Choice {
             operation: Operation::GetNext,
-            permission: Permission::Key(access_permission::READ),
+            permission: Permission::Any(access_permission::READ),
             reply_type: GETNEXT_RESPONSE,
         }),
         GETPREVIOUS => Asked::Request(Choice {
             operation: Operation::GetPrevious,
-            permission: Permission::Key(access_permission::READ),
+            permission: Permission::Any(access_permission::READ),
             reply_type: GETPREVIOUS_RESPONSE,
         }),
         GETKEYRANGE => Asked::Request(Choice {
             operation: Operation::GetKeyRange,
-            permission: Permission::Both(access_permission::RANGE),
+            permission: Permission::Any(access_permission::RANGE),
             reply_type: GETKEYRANGE_RESPONSE,
         }),
         GETVERSION => Asked::Request(Choice {

@@ -2,14 +2,13 @@
 use mathlib.Core.Bool.{Bool, true}
 use lib.Dec.{ltb}
 use Rattle.protocol.specs.declared.Permission.{Permission}
-use Rattle.protocol.specs.declared.Permission.the-variants.{Free, Key, Both, Any}
+use Rattle.protocol.specs.declared.Permission.the-variants.{Free, Key, Any}
 use Rattle.protocol.specs.declared.Asked.{Asked}
 use Rattle.protocol.specs.declared.Asked.the-variants.{Request, NotBuilt}
 
 abbrev pub numbered : Permission → Bool
 numbered Free = true
 numbered (Key p) = ltb p 16
-numbered (Both p) = ltb p 16
 numbered (Any p) = ltb p 16
 
 abbrev pub askedNumbered : Asked → Bool

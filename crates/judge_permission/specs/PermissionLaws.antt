@@ -1,5 +1,5 @@
 -- The verdict by the permission that is needed, and that what is asked for has its bit.
-use mathlib.Core.Path.{_≡_, refl, sym, ap, ap₂, _∙_}
+use mathlib.Core.Path.{_≡_, refl, sym, ap, _∙_}
 use mathlib.Core.Bool.{Bool, true}
 use mathlib.Core.List.{List}
 use mathlib.Core.Option.{Option, none, some}
@@ -7,14 +7,13 @@ use Prim.Native.Nat.{ℕ, _<_}
 use borrow.Author.Tests.{ltb-true}
 use Rattle.base_definitions.specs.Lists.{all}
 use Rattle.access_record.specs.Table as access
-use Rattle.access_permission.specs.Permission.{permits, permitsAny, permitsRange}
+use Rattle.access_permission.specs.Permission.{permits, permitsAny}
 use Rattle.protocol.specs.declared.Permission.{Permission}
-use Rattle.protocol.specs.declared.Permission.the-variants.{Free, Key, Both, Any}
+use Rattle.protocol.specs.declared.Permission.the-variants.{Free, Key, Any}
 use Rattle.protocol.specs.Command.{Body}
 use Rattle.protocol.specs.Operation.{askedBy}
 use Rattle.protocol.specs.OperationLaws.{asked-all}
-use Rattle.protocol.specs.Judge.{permitted}
-use Rattle.judge_permission.specs.Keys.{Keys}
+use Rattle.protocol.specs.Judge.{keyValueIn, permitted}
 use Rattle.judge_permission.specs.Numbered.{numbered, askedNumbered}
 
 -- what a messageType asks for has its bit
@@ -27,13 +26,10 @@ module _ {p : Permission} (e : numbered p ≡ true) (n : ℕ) where
   pub key-numbered : p ≡ Key n → n < 16
   key-numbered q = ltb-true n 16 (sym (ap numbered q) ∙ e)
 
-  pub both-numbered : p ≡ Both n → n < 16
-  both-numbered q = ltb-true n 16 (sym (ap numbered q) ∙ e)
-
   pub any-numbered : p ≡ Any n → n < 16
   any-numbered q = ltb-true n 16 (sym (ap numbered q) ∙ e)
 
-module _ (a : access.Acl) (w : Bool) {p : Permission} {b : Body} {key start end : List ℕ} (k : Keys b key start end) where
+module _ (a : access.Acl) (w : Bool) {p : Permission} (b : Body) {key : List ℕ} (k : keyValueIn b .key ≡ key) where
   same : {q : Permission} → p ≡ q → permitted a w q b ≡ permitted a w p b
   same e = ap (λ (q : Permission). permitted a w q b) (sym e)
 
@@ -41,10 +37,7 @@ module _ (a : access.Acl) (w : Bool) {p : Permission} {b : Body} {key start end 
   by-none e = same e
 
   pub by-key : (n : ℕ) → p ≡ Key n → permits a w n key ≡ permitted a w p b
-  by-key n e = ap (permits a w n) (sym (k .key)) ∙ same e
-
-  pub by-both : (n : ℕ) → p ≡ Both n → permitsRange a w n start end ≡ permitted a w p b
-  by-both n e = ap₂ (permitsRange a w n) (sym (k .start)) (sym (k .end)) ∙ same e
+  by-key n e = ap (permits a w n) (sym k) ∙ same e
 
   pub by-any : (n : ℕ) → p ≡ Any n → permitsAny a w n ≡ permitted a w p b
   by-any n e = same e

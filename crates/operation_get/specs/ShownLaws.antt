@@ -6,15 +6,18 @@ use mathlib.Core.Option.{Option, some}
 use Prim.Native.Nat.{ℕ, zero, suc, _+_, _≤_}
 use native.Mathlib.Omega.{arith}
 use lib.ListN.{length, getD, length-take, length-drop}
+use Rattle.base_definitions.specs.Lists.{first, only}
 use Rattle.store_block.specs.Entry.{Entry, noEntry}
 use Rattle.store_layout.specs.declared.KeyPlace as found
-use Rattle.store_layout.specs.declared.EntryPlace as place
 use Rattle.store_layout.specs.declared.EntryPart.{EntryPart}
 use Rattle.store_layout.specs.declared.Parts.{Parts}
 use Rattle.store_layout.specs.Store.{entriesOf, Good, AllFit}
 use Rattle.store_layout.specs.Entries.{EntryAt, Sought, findIn, partOf}
+use Rattle.operation_visible.specs.declared.Run.{Run}
+use Rattle.operation_visible.specs.Runs.{along, skipped}
+use Rattle.operation_visible.specs.RunLaws.{none-left, some-left}
 use Rattle.protocol.specs.State.{State, entries}
-use Rattle.protocol.specs.Judge.{keyValue, fails, succeeds, shown, versionShown, entryAt, entryThere, entryOf}
+use Rattle.protocol.specs.Judge.{keyValue, fails, succeeds, shown, versionShown, entryAt, entryOf}
 use Rattle.operation_get.specs.declared.Shown.{Shown}
 use Rattle.operation_get.specs.declared.Shown.the-variants.{Found, Missing}
 use Rattle.operation_get.specs.Shown.{Inside, Showing}
@@ -59,26 +62,43 @@ module _ (l : List ℕ) (g : Good l) where
         value-fits = omega arith;
       }
 
-  -- the entry at a place, shown by its parts
-  pub found-there : (i : ℕ) (p : Parts) → EntryAt l i p → Showing l (Found p) (λ s. entryThere s (place.the-variants.There i))
-  found-there i p e =
-      record { inside = parts-inside i p e; same = λ s q. ap some (e .same g) ∙ ap (λ (m : List ℕ). some (getD (entriesOf m) i noEntry)) (sym q) }
-
   pub found-at : (k : List ℕ) (i : ℕ) (p : Parts) → EntryAt l i p → Sought l k (found.the-variants.At i) → Showing l (Found p) (λ s. entryOf s k)
   found-at k i p e f =
       record {
         inside = parts-inside i p e;
-        same = λ s q. found-there i p e .same s q ∙ ap (entryAt s) (f .same g ∙ ap (λ (m : List ℕ). findIn k (entriesOf m)) (sym q));
+        same = λ s q.
+            ap some (e .same g) ∙ ap (λ (m : List ℕ). some (getD (entriesOf m) i noEntry)) (sym q) ∙ ap (entryAt s) (f .same g ∙ ap (λ (m : List ℕ). findIn k (entriesOf m)) (sym q));
       }
 
   pub missing-at : (k : List ℕ) (i : ℕ) → Sought l k (found.the-variants.Gap i) → Showing l Missing (λ s. entryOf s k)
   missing-at k i f =
       record { inside = tt; same = λ s q. ap (entryAt s) (f .same g ∙ ap (λ (m : List ℕ). findIn k (entriesOf m)) (sym q)) }
 
-  -- a place by another name
-  pub shown-by : {r : Shown} {p : place.EntryPlace} (f : List Entry → place.EntryPlace) → p ≡ f (entriesOf l) → Showing l r (λ s. entryThere s p) → Showing l r (λ s. entryThere s (f (entries s)))
-  shown-by f e h =
-      record { inside = h .inside; same = λ s q. h .same s q ∙ ap (entryThere s) (e ∙ ap (λ (m : List ℕ). f (entriesOf m)) (sym q)) }
+  -- the first entry of a run that passes a test, by what is left of the run
+  module _ (f : Entry → Bool) (r : Run) {left : Run} (e : left ≡ skipped f (entriesOf l) r) where
+    pub found-first : (p : Parts) → (left .count ≡ 0 → ⊥) → EntryAt l (left .first) p → Showing l (Found p) (λ s. first (only f (along r (entries s))))
+    found-first p n w =
+        record {
+          inside = parts-inside (left .first) p w;
+          same = λ s q.
+              ap some (w .same g ∙ ap (λ (x : Run). getD (entriesOf l) (x .first) noEntry) e)
+              ∙ sym (ap first (some-left f (entriesOf l) (r .reverse) (r .first) (r .count) (λ z. n (ap (λ (x : Run). x .count) e ∙ z))))
+              ∙ ap (λ (m : List ℕ). first (only f (along r (entriesOf m)))) (sym q);
+        }
+
+    pub missing-first : left .count ≡ 0 → Showing l Missing (λ s. first (only f (along r (entries s))))
+    missing-first n =
+        record {
+          inside = tt;
+          same = λ s q.
+              sym (ap first (none-left f (entriesOf l) (r .reverse) (r .first) (r .count) (sym (ap (λ (x : Run). x .count) e) ∙ n)))
+              ∙ ap (λ (m : List ℕ). first (only f (along r (entriesOf m)))) (sym q);
+        }
+
+  -- an entry by another name
+  pub shown-as : {r : Shown} (f h : List Entry → Option Entry) → f (entriesOf l) ≡ h (entriesOf l) → Showing l r (λ s. f (entries s)) → Showing l r (λ s. h (entries s))
+  shown-as f h e w =
+      record { inside = w .inside; same = λ s q. w .same s q ∙ ap (λ (m : List ℕ). f (entriesOf m)) q ∙ e ∙ ap (λ (m : List ℕ). h (entriesOf m)) (sym q) }
 
 -- ---- what a reply says of an answer: "7 if missing"; "keyValue 3, 4, 5, 6, .., and the value part unless metadataOnly"; "GETVERSION keyValue 4"
 module _ {l : List ℕ} {of : State → Option Entry} (s : State) (q : s .store ≡ l) where

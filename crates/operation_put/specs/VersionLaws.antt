@@ -1,18 +1,14 @@
 -- Laws of versions.
 use mathlib.Core.Path.{_≡_, refl, sym, ap, _∙_}
-use mathlib.Core.Bool.{Bool, true, false, cond, _&&_, _||_}
+use mathlib.Core.Bool.{Bool, true, false, cond, _||_}
 use mathlib.Core.List.{List, [], _∷_}
 use mathlib.Core.Option.{Option, none, some}
 use Prim.Native.Nat.{ℕ}
 use native.Mathlib.Omega.{arith}
 use lib.Dec.{eqb}
 use lib.ListN.{length}
-use borrow.Author.Tests.{eq-eqb, ne-eqb}
+use borrow.Author.Tests.{ne-eqb}
 use Rattle.base_definitions.specs.Lists.{sameBytes}
-use Rattle.store_block.specs.declared.Order.{Order}
-use Rattle.store_block.specs.Order.{cmp}
-use Rattle.store_block.specs.OrderLaws.{three, cmp-less, cmp-greater, cmp-same}
-use Rattle.store_block.specs.Block.{isEqual}
 use Rattle.store_block.specs.Entry.{Entry}
 use Rattle.store_layout.specs.declared.Parts.{Parts}
 use Rattle.store_layout.specs.Entries.{partOf}
@@ -23,23 +19,6 @@ use Rattle.operation_get.specs.declared.Shown.the-variants.{Found, Missing}
 use Rattle.operation_get.specs.Shown.{entryShown, Showing}
 use Rattle.operation_put.specs.declared.version.Version.the-variants.{Same, Other, Absent}
 use Rattle.operation_put.specs.VersionFound.{versionFound, versionFits}
-
--- ---- same bytes are those that compare as equal
-
-pub same-cmp : (a b : List ℕ) → isEqual (cmp a b) ≡ sameBytes a b
-unfolding cmp isEqual sameBytes
-same-cmp [] [] = refl
-same-cmp [] (y ∷ ys) = refl
-same-cmp (x ∷ xs) [] = refl
-same-cmp (x ∷ xs) (y ∷ ys) =
-    let ih = same-cmp xs ys in
-    three x y
-    (λ h. ap isEqual (cmp-less x y xs ys h) ∙ sym (ap (λ (t : Bool). (t && sameBytes xs ys)) (ne-eqb x y (λ e. omega arith))))
-    (λ h. ap isEqual (cmp-greater x y xs ys h) ∙ sym (ap (λ (t : Bool). (t && sameBytes xs ys)) (ne-eqb x y (λ e. omega arith))))
-    (λ h. ap isEqual (cmp-same x y xs ys h) ∙ ih ∙ sym (ap (λ (t : Bool). (t && sameBytes xs ys)) (eq-eqb x y h)))
-
-pub by-cmp : (a b : List ℕ) (o : Order) → o ≡ cmp a b → isEqual o ≡ sameBytes a b
-by-cmp a b o e = ap isEqual e ∙ same-cmp a b
 
 -- ---- the version
 

@@ -1,8 +1,7 @@
 // Document 01, "What each does": the dbVersion of PUT and DELETE against the stored version.
+use base_bytes::same;
 use operation_get::Shown;
-use store_block::Order;
 ghost use mathlib.Core.Path.{_≡_};
-ghost use Rattle.base_definitions.specs.Lists.{sameBytes};
 ghost use Rattle.store_layout.specs.Store.{Good};
 ghost use Rattle.protocol.specs.State.{State};
 ghost use Rattle.protocol.specs.Judge.{entryOf};
@@ -13,16 +12,6 @@ pub enum Version {
     Same,
     Other,
     Absent,
-}
-
-fn same(a: &[u8], b: &[u8]) -> bool
-    ensures { λ r. ⌜ r ≡ sameBytes (now (a .entry)) (now (b .entry)) ⌝ }
-{
-    match store_block::compare(a, b) {
-        Order::Less => false,
-        Order::Equal => true,
-        Order::Greater => false,
-    }
 }
 
 pub fn compare_version(store: &[u8], key: &[u8], old: &[u8]) -> Version

@@ -1,27 +1,22 @@
--- Keys of a run of places of the store, in order.
-use mathlib.Core.Path.{_≡_}
-use mathlib.Core.Bool.{Bool, true, false}
-use mathlib.Core.List.{List, [], _∷_}
-use Prim.Native.Nat.{ℕ, zero, suc, _+_, _-_, _≤_}
-use lib.ListN.{getD}
+-- Keys of places of the store, in the order of the places.
+use mathlib.Core.Bool.{Bool}
+use mathlib.Core.List.{List, _++_}
+use Prim.Native.Nat.{ℕ, _-_}
+use lib.ListN.{take, getD}
+use Rattle.base_definitions.specs.Lists.{mapL, only}
 use Rattle.store_block.specs.Entry.{Entry, noEntry}
+use Rattle.operation_visible.specs.Runs.{entriesFrom}
+
+abbrev pub keyOf : Entry → List ℕ
+keyOf e = e .key
 
 -- the key at a place
 abbrev pub keyAt : List Entry → ℕ → List ℕ
 keyAt es i = getD es i noEntry .key
 
--- the place i steps on from the first: "ascending, or descending with reverse"
-abbrev pub onward : Bool → ℕ → ℕ → ℕ
-onward false first i = first + i
-onward true first i = first - i
+abbrev pub keysAt : List Entry → List ℕ → List (List ℕ)
+keysAt es places = mapL (keyAt es) places
 
--- the keys of n places
-unfoldable pub keysFrom : Bool → ℕ → ℕ → List Entry → List (List ℕ)
-keysFrom reverse first zero es = []
-keysFrom reverse first (suc n) es = keyAt es first ∷ keysFrom reverse (onward reverse first 1) n es
-
--- what a reply may list: at most 32 places, none before the store
-pub record Run (first count : ℕ) (reverse : Bool) : Type 0 where
-  pub near : first ≤ 128
-  pub few : count ≤ 32
-  pub inside : reverse ≡ true → count ≤ first + 1
+-- what is listed already, n places of at most `most`, and what may follow from a run by a test
+abbrev pub listed : (Entry → Bool) → List Entry → Bool → ℕ → List ℕ → ℕ → ℕ → ℕ → List (List ℕ)
+listed f es reverse most places n i count = keysAt es (take n places) ++ take (most - n) (mapL keyOf (only f (entriesFrom reverse i count es)))

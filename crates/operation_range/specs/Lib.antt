@@ -1,4 +1,3 @@
 pub mod Keys
-pub mod KeysLaws
 pub mod Range
 pub mod RangeLaws

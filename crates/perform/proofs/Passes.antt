@@ -9,14 +9,17 @@ use lib.Dec.{leb}
 use lib.ListN.{length}
 use Rattle.fields_schema.specs.Tree.{guard, isSome}
 use Rattle.fields_lookup.specs.Views.{signedView}
-use Rattle.store_layout.specs.Entries.{nextIn, previousIn}
+use Rattle.access_record.specs.Table as access
+use Rattle.access_permission.specs.Permissions.{READ, RANGE}
+use Rattle.store_layout.specs.Entries.{nextOf, previousOf}
 use Rattle.protocol.specs.declared.Operation.{Operation}
 use Rattle.protocol.specs.declared.Operation.the-variants.{Noop, Get, GetVersion, GetNext, GetPrevious, GetKeyRange, Put, Delete, FlushAllData, Setup, GetLog, Security}
+use Rattle.operation_visible.specs.Seen.{sees}
 use Rattle.protocol.specs.State.{State, entries}
 use Rattle.protocol.specs.Command as command
-use Rattle.base_definitions.specs.Lists.{isEmpty}
+use Rattle.base_definitions.specs.Lists.{isEmpty, only}
 use Rattle.base_definitions.specs.Options.{orElse}
-use Rattle.protocol.specs.Judge.{algorithmsGood, broken, changeGood, deleteBy, entryOf, entryThere, fault, keyValueGood, keyValueIn, keysOf, logged, noKeyValue, noRange, present, put, range, rangeGood, rangeIn, secure, securityGood, setUp, shown, step10, succeeds, typesGood, versionShown}
+use Rattle.protocol.specs.Judge.{algorithmsGood, broken, changeGood, deleteBy, entryOf, fault, keyValueGood, keyValueIn, keysOf, logged, noKeyValue, noRange, present, put, range, rangeGood, rangeIn, secure, securityGood, setUp, shown, step10, succeeds, typesGood, versionShown, visible, visibleIn}
 use Rattle.judge_body_rules.specs.PassedLaws.{put-passed, range-passed}
 use Rattle.request_command.specs.declared.Body.{Body}
 use Rattle.request_parts.specs.Views.{keyValueView, rangeView}
@@ -91,25 +94,30 @@ module _ (s : List ℕ) (b : Body) (v : List ℕ) where
       go false e = never e
 
   -- step 10 of a body that passes step 8
-  step-whole : (t : State) (o : Operation) → fault o (bodyView s b) v ≡ 0 → step10 t o (bodyView s b) v ≡ step10 t o (wholeView s b) v
-  step-whole t Noop e = refl
-  step-whole t FlushAllData e = refl
-  step-whole t Get e = ap (λ (k : command.KeyValue). shown t (k .metadataOnly) (entryOf t (k .key))) (keyed (isEmpty v) keyValueGood e)
-  step-whole t GetVersion e = ap (λ (k : command.KeyValue). versionShown t (entryOf t (k .key))) (keyed (isEmpty v) keyValueGood e)
-  step-whole t GetNext e =
-      ap (λ (k : command.KeyValue). shown t (k .metadataOnly) (entryThere t (nextIn (k .key) (entries t)))) (keyed (isEmpty v) keyValueGood e)
-  step-whole t GetPrevious e =
-      ap (λ (k : command.KeyValue). shown t (k .metadataOnly) (entryThere t (previousIn (k .key) (entries t)))) (keyed (isEmpty v) keyValueGood e)
-  step-whole t Put e = ap (λ (k : command.KeyValue). put t k v) (keyed (leb (length v) 384) changeGood e)
-  step-whole t Delete e = ap (λ (k : command.KeyValue). deleteBy t k (entryOf t (k .key))) (keyed (isEmpty v) changeGood e)
-  step-whole t GetKeyRange e = ap (λ (g : command.Range). succeeds t (range (keysOf g (entries t))) []) (ranged e)
-  step-whole t Setup e =
+  step-whole : (t : State) (a : access.Acl) (o : Operation) → fault o (bodyView s b) v ≡ 0 → step10 t a o (bodyView s b) v ≡ step10 t a o (wholeView s b) v
+  step-whole t a Noop e = refl
+  step-whole t a FlushAllData e = refl
+  step-whole t a Get e = ap (λ (k : command.KeyValue). shown t (k .metadataOnly) (entryOf t (k .key))) (keyed (isEmpty v) keyValueGood e)
+  step-whole t a GetVersion e = ap (λ (k : command.KeyValue). versionShown t (entryOf t (k .key))) (keyed (isEmpty v) keyValueGood e)
+  step-whole t a GetNext e =
+      ap (λ (k : command.KeyValue). shown t (k .metadataOnly) (nextOf (k .key) (visibleIn t a READ))) (keyed (isEmpty v) keyValueGood e)
+  step-whole t a GetPrevious e =
+      ap (λ (k : command.KeyValue). shown t (k .metadataOnly) (previousOf (k .key) (visibleIn t a READ))) (keyed (isEmpty v) keyValueGood e)
+  step-whole t a Put e = ap (λ (k : command.KeyValue). put t k v) (keyed (leb (length v) 384) changeGood e)
+  step-whole t a Delete e = ap (λ (k : command.KeyValue). deleteBy t k (entryOf t (k .key))) (keyed (isEmpty v) changeGood e)
+  step-whole t a GetKeyRange e = ap (λ (g : command.Range). succeeds t (range (keysOf g (visibleIn t a RANGE))) []) (ranged e)
+  step-whole t a Setup e =
       ap (setUp t) (there none isSome refl (b .changed) (signedView (b .cluster)) (beside (isEmpty v) (isSome (bodyView s b .setup)) e))
-  step-whole t GetLog e =
+  step-whole t a GetLog e =
       ap (logged t) (there [] (present typesGood) refl (b .logged) (logTypes s) (beside (isEmpty v) (present typesGood (bodyView s b .getLog)) e))
-  step-whole t Security e =
+  step-whole t a Security e =
       ap (secure t) (there [] (present securityGood) refl (b .security .has) (aclsIn s (b .security)) (tabled e))
 
-  pub performed : (a : ReplyTo) (by : List ℕ) (t : State) {o o' : Operation} {n : ℕ} {out out' : List ℕ} {t' : State} → fault o (bodyView s b) v ≡ 0 → o ≡ o'
-      → Sent (replied a by (step10 t o' (wholeView s b) v)) n out out' t' → Sent (replied a by (step10 t o (bodyView s b) v)) n out out' t'
-  performed a by t {o} f e h = sent-as a by (sym (step-whole t o f ∙ ap (λ (o : Operation). step10 t o (wholeView s b) v) e)) h
+  pub performed : (to : ReplyTo) (by : List ℕ) (t : State) (a : access.Acl) {o o' : Operation} {n : ℕ} {out out' : List ℕ} {t' : State} → fault o (bodyView s b) v ≡ 0 → o ≡ o'
+      → Sent (replied to by (step10 t a o' (wholeView s b) v)) n out out' t' → Sent (replied to by (step10 t a o (bodyView s b) v)) n out out' t'
+  performed to by t a {o} f e h = sent-as to by (sym (step-whole t a o f ∙ ap (λ (o : Operation). step10 t a o (wholeView s b) v) e)) h
+
+-- what a viewer sees, of a state whose connection is the viewer's
+pub visible-by : (t : State) (a : access.Acl) (p : ℕ) {w : Bool} → t .connection .protected ≡ w → only (sees a w p) (entries t) ≡ visibleIn t a p
+unfolding visible
+visible-by t a p e = ap (λ (w : Bool). only (sees a w p) (entries t)) (sym e)

@@ -2,6 +2,7 @@
 use access_record::Record;
 use fields_lookup::parts::Part;
 use fields_lookup::parts::Signed;
+use operation_visible::Viewer;
 use perform_get::Which;
 use perform_get::get;
 use perform_get::get_version;
@@ -21,7 +22,9 @@ ghost use lib.ListN.{length};
 ghost use Rattle.store_layout.specs.Store.{Good};
 ghost use Rattle.log_readings.specs.Lent.{readingsGood};
 ghost use Rattle.fields_lookup.specs.Views.{signedView};
-ghost use Rattle.protocol.specs.State.{Connection, State, withDevice};
+ghost use Rattle.access_record.specs.Table.{aclOf};
+ghost use Rattle.access_record.specs.Record.{Placed};
+ghost use Rattle.protocol.specs.State.{Connection, State, table, withDevice};
 ghost use Rattle.protocol.specs.Judge.{setUp, secure, securityGood, fault, step10};
 ghost use Rattle.request_command.specs.Views.{BodyLies, bodyView};
 ghost use Rattle.request_scope.specs.Stands.{StandsSecurity, aclsIn};
@@ -67,10 +70,12 @@ fn secure(
 
 // ---- step 10
 
-// An operation to be done, with its body, and to whom its reply goes.
+// An operation to be done, with its body, for whom (the place of the ACL, and whether the connection is protected), and to whom its reply goes.
 pub struct Job {
     pub operation: Operation,
     pub body: Body,
+    pub acl: usize,
+    pub protected: bool,
     pub reply_to: ReplyTo,
 }
 
@@ -86,27 +91,38 @@ pub fn perform(
     signing_key: &[u8],
 ) -> usize
     requires { ⌜ (4096 ≤ length (now out)) × (length (now «signing_key») ≤ 64) × Good (now store) × BodyLies (now command) (job .body)
-        × (fault (job .operation) (bodyView (now command) (job .body)) (now value) ≡ 0) × (readingsGood (now readings) ≡ true) ⌝ }
-    ensures { λ r. ⌜ ((c : Connection)
+        × (fault (job .operation) (bodyView (now command) (job .body)) (now value) ≡ 0) × (readingsGood (now readings) ≡ true)
+        × Placed (now device) (job .acl) ⌝ }
+    ensures { λ r. ⌜ ((c : Connection) → c .protected ≡ job .protected
         → let body = bodyView (now (command .entry)) (job .body) in
-        Answers (λ s. replied (job .«reply_to») (now («signing_key» .entry)) (step10 s (job .operation) body (now (value .entry))))
+        Answers (λ s. replied (job .«reply_to») (now («signing_key» .entry))
+        (step10 s (aclOf (table s) (job .acl)) (job .operation) body (now (value .entry))))
         (before store device readings c) out r (after store device readings c)) ⌝ }
 {
     let operation = job.operation;
     let to = job.reply_to;
     let entry = job.body.entry;
+    let viewer = Viewer {
+        acl: job.acl,
+        protected: job.protected,
+    };
+    let own = Which::Own;
+    let next = Which::Next(viewer);
+    let below = Which::Previous(viewer);
     match operation {
         Operation::Noop => status(out, signing_key, to, SUCCESS),
         Operation::FlushAllData => status(out, signing_key, to, SUCCESS),
-        Operation::Get => get(out, signing_key, to, Which::Own, store, command, entry),
+        Operation::Get => get(out, signing_key, to, own, store, device, command, entry),
         Operation::GetVersion => get_version(out, signing_key, to, store, command, entry),
-        Operation::GetNext => get(out, signing_key, to, Which::Next, store, command, entry),
-        Operation::GetPrevious => get(out, signing_key, to, Which::Previous, store, command, entry),
+        Operation::GetNext => get(out, signing_key, to, next, store, device, command, entry),
+        Operation::GetPrevious => get(out, signing_key, to, below, store, device, command, entry),
         Operation::GetKeyRange => get_key_range(
             out,
             signing_key,
             to,
+            viewer,
             store,
+            device,
             command,
             job.body.range,
         ),

@@ -54,6 +54,8 @@ fn others(device: &mut Record) {
     add_acl(device, 6, MINUS_ONE, b"minus one");
     add_scope(device, 6, 0, 60, 272, false, b"zzzz");
     add_scope(device, 6, 1, 0, 8, false, b"");
+    add_acl(device, 7, 7, b"seven");
+    add_scope(device, 7, 0, 0, 9, true, b"z");
 }
 
 // ---- the verdict on an identity
@@ -92,27 +94,6 @@ fn judge_any(device: &Record, identity: i64, protected: bool, permission: u8) ->
         IdentityPlace::Nobody => Verdict::Nobody,
         IdentityPlace::At(place) => {
             if access_verdict::verdict::permits_any(device, place, protected, permission) {
-                return Verdict::Yes;
-            }
-            Verdict::No
-        }
-    }
-}
-
-fn judge_range(
-    device: &Record,
-    identity: i64,
-    protected: bool,
-    start: &[u8],
-    end: &[u8],
-) -> Verdict {
-    if !access_check::record_good(device) {
-        return Verdict::Bad;
-    }
-    match access_identity::find_identity(device, identity) {
-        IdentityPlace::Nobody => Verdict::Nobody,
-        IdentityPlace::At(place) => {
-            if access_verdict::verdict::permits_range(device, place, protected, RANGE, start, end) {
                 return Verdict::Yes;
             }
             Verdict::No
@@ -203,22 +184,6 @@ fn row_any(device: &Record, identity: i64, permission: u8)
     cell_any(device, identity, true, permission);
 }
 
-fn cell_range(device: &Record, identity: i64, protected: bool, start: &[u8], end: &[u8]) {
-    write_identity(identity);
-    write_permission(RANGE);
-    write_key(start);
-    write_key(end);
-    write_cell(
-        protected,
-        judge_range(device, identity, protected, start, end),
-    );
-}
-
-fn row_range(device: &Record, identity: i64, start: &[u8], end: &[u8]) {
-    cell_range(device, identity, false, start, end);
-    cell_range(device, identity, true, start, end);
-}
-
 // ---- the rows
 
 fn client_rows(device: &Record) {
@@ -230,10 +195,12 @@ fn client_rows(device: &Record) {
     row(device, 1, WRITE, b"xfoo");
     row(device, 1, WRITE, b"bar");
     row(device, 1, DELETE, b"foo1");
-    row_range(device, 1, b"foo", b"foz");
+    row_any(device, 1, READ);
+    row_any(device, 1, RANGE);
     row_any(device, 1, SECURITY);
     row_any(device, 2, SECURITY);
     row_any(device, 2, SETUP);
+    row_any(device, 2, READ);
     row(device, 2, READ, b"foo1");
     row(device, 2, WRITE, b"foo1");
 }
@@ -251,26 +218,34 @@ fn reader_rows(device: &Record) {
     row(device, 4, READ, b"a1");
     row(device, 4, READ, b"b1");
     row(device, 4, DELETE, b"a1");
+    row_any(device, 4, READ);
 }
 
 fn range_rows(device: &Record) {
-    row_range(device, 5, b"a1", b"a9");
-    row_range(device, 5, b"a1", b"m1");
-    row_range(device, 5, b"m1", b"a1");
-    row_range(device, 5, b"a1", b"z1");
-    row_range(device, 5, b"z1", b"a1");
-    row_range(device, 5, b"", b"a9");
+    row_any(device, 5, RANGE);
+    row(device, 5, RANGE, b"a1");
+    row(device, 5, RANGE, b"m1");
+    row(device, 5, RANGE, b"z1");
+    row(device, 5, RANGE, b"");
+    row_any(device, 5, READ);
+    row_any(device, 7, READ);
+    row_any(device, 7, RANGE);
+    row(device, 7, READ, b"z1");
+    row(device, 7, RANGE, b"a1");
 }
 
 fn other_rows(device: &Record) {
     row(device, 6, READ, b"open");
     row(device, 6, READ, b"shut");
     row(device, 6, READ, b"pen");
+    row_any(device, 6, READ);
     row_any(device, MINUS_ONE, SETUP);
     row_any(device, MINUS_ONE, SECURITY);
-    row_range(device, MINUS_ONE, b"", b"");
+    row_any(device, MINUS_ONE, RANGE);
+    row(device, MINUS_ONE, RANGE, b"zzzz");
     row(device, MINUS_ONE, READ, b"zzzz");
     row(device, 9, READ, b"foo1");
+    row_any(device, 9, RANGE);
 }
 
 fn main() {

@@ -12,20 +12,21 @@ use borrow.Author.Tests.{ltb-true, eqb-true, eq-eqb}
 use Rattle.fields_schema.specs.Tree.{among}
 use Rattle.base_integers.specs.Signed.{signedOf}
 use Rattle.access_record.specs.Table as access
+use Rattle.access_permission.specs.Permissions.{READ}
 use Rattle.store_block.specs.Entry.{Entry}
 use Rattle.store_layout.specs.declared.PutAnswer.{PutAnswer}
 use Rattle.store_layout.specs.declared.PutAnswer.the-variants.{Stored, Full, Unfit}
-use Rattle.store_layout.specs.Entries.{putAnswer, nextIn, previousIn}
+use Rattle.store_layout.specs.Entries.{putAnswer, nextOf, previousOf}
 use Rattle.protocol.specs.declared.Operation.{Operation}
 use Rattle.protocol.specs.declared.Operation.the-variants.{Noop, Get, GetVersion, GetNext, GetPrevious, GetKeyRange, Put, Delete, FlushAllData, Setup, GetLog, Security}
 use Rattle.protocol.specs.declared.Asked.{Asked}
 use Rattle.protocol.specs.declared.Asked.the-variants.{Request, NotBuilt}
-use Rattle.protocol.specs.State.{State, table, entries, withSequence, accepted}
+use Rattle.protocol.specs.State.{State, table, withSequence, accepted}
 use Rattle.base_definitions.specs.Options.{orElse}
 use Rattle.protocol.specs.Command.{Header, KeyValue, Body, Command}
 use Rattle.protocol.specs.Operation.{askedBy}
 use Rattle.protocol.specs.Judge.{Result, fails, bothThere, step4, step5, above, aboveLast, step6, step7, fault, step8, keyValueIn, permitted, step9}
-use Rattle.protocol.specs.Judge.{entryThere, entryOf, shown, versionShown, versionRight, newEntry, putBy, put, deleteBy, setUp, step10, judge}
+use Rattle.protocol.specs.Judge.{entryOf, visibleIn, shown, versionShown, versionRight, newEntry, putBy, put, deleteBy, setUp, step10, judge}
 use Rattle.protocol.specs.Passes.{Passes}
 
 -- the result leaves the connection and the readings of s as they are
@@ -62,19 +63,19 @@ keeps-setup : (s : State) (o : Option ℕ) → Keeps s (setUp s o)
 keeps-setup s none = record { same = refl; read = refl }
 keeps-setup s (some v) = record { same = refl; read = refl }
 
-keeps-step10 : (s : State) (o : Operation) (b : Body) (v : List ℕ) → Keeps s (step10 s o b v)
-keeps-step10 s Noop b v = record { same = refl; read = refl }
-keeps-step10 s FlushAllData b v = record { same = refl; read = refl }
-keeps-step10 s Get b v = keeps-shown s (keyValueIn b .metadataOnly) (entryOf s (keyValueIn b .key))
-keeps-step10 s GetVersion b v = keeps-version s (entryOf s (keyValueIn b .key))
-keeps-step10 s GetNext b v = keeps-shown s (keyValueIn b .metadataOnly) (entryThere s (nextIn (keyValueIn b .key) (entries s)))
-keeps-step10 s GetPrevious b v = keeps-shown s (keyValueIn b .metadataOnly) (entryThere s (previousIn (keyValueIn b .key) (entries s)))
-keeps-step10 s Put b v = keeps-put s (keyValueIn b) v
-keeps-step10 s Delete b v = keeps-delete s (keyValueIn b) (entryOf s (keyValueIn b .key))
-keeps-step10 s GetKeyRange b v = record { same = refl; read = refl }
-keeps-step10 s Setup b v = keeps-setup s (orElse none (b .setup))
-keeps-step10 s GetLog b v = keeps-choose s (among 7 (orElse [] (b .getLog))) (record { same = refl; read = refl }) (record { same = refl; read = refl })
-keeps-step10 s Security b v = record { same = refl; read = refl }
+keeps-step10 : (s : State) (a : access.Acl) (o : Operation) (b : Body) (v : List ℕ) → Keeps s (step10 s a o b v)
+keeps-step10 s a Noop b v = record { same = refl; read = refl }
+keeps-step10 s a FlushAllData b v = record { same = refl; read = refl }
+keeps-step10 s a Get b v = keeps-shown s (keyValueIn b .metadataOnly) (entryOf s (keyValueIn b .key))
+keeps-step10 s a GetVersion b v = keeps-version s (entryOf s (keyValueIn b .key))
+keeps-step10 s a GetNext b v = keeps-shown s (keyValueIn b .metadataOnly) (nextOf (keyValueIn b .key) (visibleIn s a READ))
+keeps-step10 s a GetPrevious b v = keeps-shown s (keyValueIn b .metadataOnly) (previousOf (keyValueIn b .key) (visibleIn s a READ))
+keeps-step10 s a Put b v = keeps-put s (keyValueIn b) v
+keeps-step10 s a Delete b v = keeps-delete s (keyValueIn b) (entryOf s (keyValueIn b .key))
+keeps-step10 s a GetKeyRange b v = record { same = refl; read = refl }
+keeps-step10 s a Setup b v = keeps-setup s (orElse none (b .setup))
+keeps-step10 s a GetLog b v = keeps-choose s (among 7 (orElse [] (b .getLog))) (record { same = refl; read = refl }) (record { same = refl; read = refl })
+keeps-step10 s a Security b v = record { same = refl; read = refl }
 
 step5-passed : (s : State) (h : Header) (next : Result) → h .clusterVersion ≡ table s .clusterVersion → step5 s h next ≡ next
 step5-passed s h next e = rw (e, eq-eqb (table s .clusterVersion) (table s .clusterVersion) refl)
@@ -88,13 +89,13 @@ module _ (s : State) (a : access.Acl) (c : Command) (v : List ℕ) where
   onwards q o =
       step7 (accepted s q) o (λ x.
       step8 (accepted s q) (x .operation) (c .body) v
-      (step9 (accepted s q) a (x .permission) (c .body) (step10 (accepted s q) (x .operation) (c .body) v)))
+      (step9 (accepted s q) a (x .permission) (c .body) (step10 (accepted s q) a (x .operation) (c .body) v)))
 
   keeps-onwards : (q : ℕ) (o : Asked) → Keeps (accepted s q) (onwards q o)
   keeps-onwards q (Request x) =
       keeps-choose (accepted s q) (eqb (fault (x .operation) (c .body) v) 0)
       (keeps-choose (accepted s q) (permitted a (s .connection .protected) (x .permission) (c .body))
-      (keeps-step10 (accepted s q) (x .operation) (c .body) v) (record { same = refl; read = refl }))
+      (keeps-step10 (accepted s q) a (x .operation) (c .body) v) (record { same = refl; read = refl }))
       (record { same = refl; read = refl })
   keeps-onwards q NotBuilt = record { same = refl; read = refl }
 
@@ -105,16 +106,18 @@ module _ (s : State) (a : access.Acl) (c : Command) (v : List ℕ) where
   abbrev between : Header → Option ℕ → Option ℕ → Result
   between h i q = bothThere s h i q (λ h connection q. step5 s h (step6 s connection q (onwards q (askedBy (h .messageType)))))
 
-  -- THE SEQUENCE COUNTS: whatever comes of steps 7 to 10
-  pub counted : (q : ℕ) → Passes s c q → judge s a c v .state .connection ≡ withSequence (s .connection) q
+  -- where steps 4 to 6 pass, the result is that of steps 7 to 10
+  pub passed-on : (q : ℕ) (p : Passes s c q) → judge s a c v ≡ onwards q (askedBy (p .header .messageType))
   unfolding judge
-  counted q p =
+  passed-on q p =
       let h = p .header in
       let n = s .connection .number in
-      let e : judge s a c v ≡ onwards q (askedBy (h .messageType)) =
       ap before (p .there) ∙ ap (λ i. between h i (h .sequence)) (p .connection) ∙ ap (λ z. between h (some n) z) (p .sequence)
-      ∙ step5-passed s h (step6 s n q (onwards q (askedBy (h .messageType)))) (p .version) ∙ step6-passed s q (onwards q (askedBy (h .messageType))) (p .later) in
-      ap (λ r. r .state .connection) e ∙ keeps-onwards q (askedBy (h .messageType)) .same
+      ∙ step5-passed s h (step6 s n q (onwards q (askedBy (h .messageType)))) (p .version) ∙ step6-passed s q (onwards q (askedBy (h .messageType))) (p .later)
+
+  -- THE SEQUENCE COUNTS: whatever comes of steps 7 to 10
+  pub counted : (q : ℕ) → Passes s c q → judge s a c v .state .connection ≡ withSequence (s .connection) q
+  counted q p = ap (λ r. r .state .connection) (passed-on q p) ∙ keeps-onwards q (askedBy (p .header .messageType)) .same
 
   -- NOTHING CHANGES where one of steps 4 to 6 refuses
   pub not-counted : ((q : ℕ) → Passes s c q → ⊥) → judge s a c v .state ≡ s

@@ -9,21 +9,22 @@ use lib.Dec.{eqb}
 use Rattle.fields_schema.specs.Tree.{among}
 use Rattle.access_record.specs.Table as access
 use Rattle.access_record.specs.Record.{tableBytes, withClusterVersion}
+use Rattle.access_permission.specs.Permissions.{READ, RANGE}
 use Rattle.store_block.specs.Entry.{Entry}
 use Rattle.store_layout.specs.declared.PutAnswer.{PutAnswer}
 use Rattle.store_layout.specs.declared.PutAnswer.the-variants.{Stored, Full, Unfit}
-use Rattle.store_layout.specs.Entries.{nextIn, previousIn, putAnswer, putStore, deleteStore}
+use Rattle.store_layout.specs.Entries.{nextOf, previousOf, putAnswer, putStore, deleteStore}
 use Rattle.protocol.specs.declared.Operation.{Operation}
 use Rattle.protocol.specs.declared.Operation.the-variants.{Noop, Get, GetVersion, GetNext, GetPrevious, GetKeyRange, Put, Delete, FlushAllData, Setup, GetLog, Security}
 use Rattle.protocol.specs.declared.Permission.{Permission}
 use Rattle.protocol.specs.declared.Asked.{Asked}
 use Rattle.protocol.specs.declared.Asked.the-variants.{Request, NotBuilt}
-use Rattle.protocol.specs.State.{State, table, entries, withDevice, withStore, accepted}
+use Rattle.protocol.specs.State.{State, table, withDevice, withStore, accepted}
 use Rattle.base_definitions.specs.Options.{orElse}
 use Rattle.protocol.specs.Command.{Header, KeyValue, Body, Command}
 use Rattle.protocol.specs.Operation.{askedBy}
 use Rattle.protocol.specs.Judge.{ReplyBody, Result, bare, keyValue, range, log, fails, succeeds, bothThere, step4, step5, aboveLast, step6, step7, step8, step9, keyValueIn, rangeIn, permitted}
-use Rattle.protocol.specs.Judge.{entryThere, entryOf, shown, versionShown, versionRight, newEntry, putBy, put, deleteBy, keysOf, setUp, logOf, logged, wanted, step10, judge}
+use Rattle.protocol.specs.Judge.{entryOf, visibleIn, shown, versionShown, versionRight, newEntry, putBy, put, deleteBy, keysOf, setUp, logOf, logged, wanted, step10, judge}
 use Rattle.protocol.specs.Box.{typeOf}
 use Rattle.protocol.specs.FaultCode.{FaultCode, nothing, no-algorithm, invalid}
 use Rattle.protocol.specs.FaultLaws.{fault-code}
@@ -88,19 +89,19 @@ module _ (permission : Permission) (type : ℕ) where
   log-bodied m s types =
       chosen m (asking GetLog) (among 7 types) _ _ (failed m (asking GetLog) s _ (λ e. omega arith)) (succeeded m GetLog s (log (logOf s types)) [] (logOf s types, refl, refl))
 
-  step10-bodied : (s : State) (o : Operation) (b : Body) (v : List ℕ) → Bodied (keyValueIn b .metadataOnly) (asking o) (step10 s o b v)
-  step10-bodied s Noop b v = succeeded _ Noop s bare [] (refl, refl)
-  step10-bodied s FlushAllData b v = succeeded _ FlushAllData s bare [] (refl, refl)
-  step10-bodied s Get b v = shown-bodied _ s (entryOf s (keyValueIn b .key)) Get (λ e. (e, refl, refl))
-  step10-bodied s GetVersion b v = version-bodied _ s (entryOf s (keyValueIn b .key))
-  step10-bodied s GetNext b v = shown-bodied _ s (entryThere s (nextIn (keyValueIn b .key) (entries s))) GetNext (λ e. (e, refl, refl))
-  step10-bodied s GetPrevious b v = shown-bodied _ s (entryThere s (previousIn (keyValueIn b .key) (entries s))) GetPrevious (λ e. (e, refl, refl))
-  step10-bodied s Put b v = put-bodied _ s (keyValueIn b) v
-  step10-bodied s Delete b v = delete-bodied _ s (keyValueIn b) (entryOf s (keyValueIn b .key))
-  step10-bodied s GetKeyRange b v = succeeded _ GetKeyRange s (range (keysOf (rangeIn b) (entries s))) [] (keysOf (rangeIn b) (entries s), refl, refl)
-  step10-bodied s Setup b v = setup-bodied _ s (orElse none (b .setup))
-  step10-bodied s GetLog b v = log-bodied _ s (orElse [] (b .getLog))
-  step10-bodied s Security b v = succeeded _ Security (withDevice s (tableBytes (wanted (table s .clusterVersion) (orElse [] (b .security))))) bare [] (refl, refl)
+  step10-bodied : (s : State) (a : access.Acl) (o : Operation) (b : Body) (v : List ℕ) → Bodied (keyValueIn b .metadataOnly) (asking o) (step10 s a o b v)
+  step10-bodied s a Noop b v = succeeded _ Noop s bare [] (refl, refl)
+  step10-bodied s a FlushAllData b v = succeeded _ FlushAllData s bare [] (refl, refl)
+  step10-bodied s a Get b v = shown-bodied _ s (entryOf s (keyValueIn b .key)) Get (λ e. (e, refl, refl))
+  step10-bodied s a GetVersion b v = version-bodied _ s (entryOf s (keyValueIn b .key))
+  step10-bodied s a GetNext b v = shown-bodied _ s (nextOf (keyValueIn b .key) (visibleIn s a READ)) GetNext (λ e. (e, refl, refl))
+  step10-bodied s a GetPrevious b v = shown-bodied _ s (previousOf (keyValueIn b .key) (visibleIn s a READ)) GetPrevious (λ e. (e, refl, refl))
+  step10-bodied s a Put b v = put-bodied _ s (keyValueIn b) v
+  step10-bodied s a Delete b v = delete-bodied _ s (keyValueIn b) (entryOf s (keyValueIn b .key))
+  step10-bodied s a GetKeyRange b v = succeeded _ GetKeyRange s (range (keysOf (rangeIn b) (visibleIn s a RANGE))) [] (keysOf (rangeIn b) (visibleIn s a RANGE), refl, refl)
+  step10-bodied s a Setup b v = setup-bodied _ s (orElse none (b .setup))
+  step10-bodied s a GetLog b v = log-bodied _ s (orElse [] (b .getLog))
+  step10-bodied s a Security b v = succeeded _ Security (withDevice s (tableBytes (wanted (table s .clusterVersion) (orElse [] (b .security))))) bare [] (refl, refl)
 
 -- ---- the whole judgement
 
@@ -112,11 +113,11 @@ module _ (s : State) (a : access.Acl) (c : Command) (v : List ℕ) where
       → Bodied only-metadata o
       (step7 (accepted s q) o (λ x.
       step8 (accepted s q) (x .operation) (c .body) v
-      (step9 (accepted s q) a (x .permission) (c .body) (step10 (accepted s q) (x .operation) (c .body) v))))
+      (step9 (accepted s q) a (x .permission) (c .body) (step10 (accepted s q) a (x .operation) (c .body) v))))
   asked-bodied q (Request x) =
       by-fault only-metadata (Request x) (accepted s q) _ (fault-code (x .operation) (c .body) v)
       (chosen only-metadata (Request x) (permitted a (s .connection .protected) (x .permission) (c .body)) _ _
-      (step10-bodied (x .permission) (x .«reply_type») (accepted s q) (x .operation) (c .body) v)
+      (step10-bodied (x .permission) (x .«reply_type») (accepted s q) a (x .operation) (c .body) v)
       (failed only-metadata (Request x) (accepted s q) _ (λ e. omega arith)))
   asked-bodied q NotBuilt = failed only-metadata NotBuilt (accepted s q) _ (λ e. omega arith)
 
@@ -129,7 +130,7 @@ module _ (s : State) (a : access.Acl) (c : Command) (v : List ℕ) where
           step5 s h (step6 s connection q
           (step7 (accepted s q) (askedBy (h .messageType)) (λ x.
           step8 (accepted s q) (x .operation) (c .body) v
-          (step9 (accepted s q) a (x .permission) (c .body) (step10 (accepted s q) (x .operation) (c .body) v)))))))
+          (step9 (accepted s q) a (x .permission) (c .body) (step10 (accepted s q) a (x .operation) (c .body) v)))))))
       there h (some i) (some q) =
           chosen only-metadata (askedBy (h .messageType)) (eqb (h .clusterVersion) (table s .clusterVersion)) _ _
           (chosen only-metadata (askedBy (h .messageType)) (eqb i (s .connection .number) && aboveLast q (s .connection .last)) _ _
@@ -142,6 +143,6 @@ module _ (s : State) (a : access.Acl) (c : Command) (v : List ℕ) where
           step5 s h (step6 s connection q
           (step7 (accepted s q) (askedBy (h .messageType)) (λ x.
           step8 (accepted s q) (x .operation) (c .body) v
-          (step9 (accepted s q) a (x .permission) (c .body) (step10 (accepted s q) (x .operation) (c .body) v)))))))
+          (step9 (accepted s q) a (x .permission) (c .body) (step10 (accepted s q) a (x .operation) (c .body) v)))))))
       go none = failed only-metadata NotBuilt s _ (λ e. omega arith)
       go (some h) = there h (h .connectionID) (h .sequence)

@@ -10,27 +10,26 @@ use Rattle.fields_schema.specs.Tree.{guard, isSome, among}
 use Rattle.access_record.specs.Table as access
 use Rattle.base_integers.specs.Signed.{signedOf}
 use Rattle.base_definitions.specs.Options.{orElse}
-use Rattle.base_definitions.specs.Lists.{all, within, sameBytes, mapL, isEmpty}
+use Rattle.base_definitions.specs.Lists.{all, within, sameBytes, mapL, only, isEmpty}
 use Rattle.access_record.specs.Table.{named, maskOf, tableGood}
 use Rattle.access_record.specs.Record.{tableBytes, withClusterVersion}
-use Rattle.access_permission.specs.Permission.{permits, permitsAny, permitsRange}
+use Rattle.access_permission.specs.Permissions.{READ, RANGE}
+use Rattle.access_permission.specs.Permission.{permits, permitsAny}
 use Rattle.store_block.specs.Order.{cmp}
 use Rattle.store_block.specs.Block.{isLess, isEqual}
 use Rattle.store_block.specs.Entry.{Entry, entry, noEntry}
 use Rattle.store_layout.specs.Store.{blocksIn, entriesOf}
-use Rattle.store_layout.specs.Entries.{findIn, nextIn, previousIn, putAnswer, putStore, deleteStore}
+use Rattle.store_layout.specs.Entries.{findIn, nextOf, previousOf, putAnswer, putStore, deleteStore}
 use Rattle.store_layout.specs.declared.KeyPlace.{KeyPlace}
 use Rattle.store_layout.specs.declared.KeyPlace.the-variants.{At, Gap}
 use Rattle.store_layout.specs.declared.PutAnswer.{PutAnswer}
 use Rattle.store_layout.specs.declared.PutAnswer.the-variants.{Stored, Full, Unfit}
-use Rattle.store_layout.specs.declared.EntryPlace.{EntryPlace}
-use Rattle.store_layout.specs.declared.EntryPlace.the-variants.{There, Nothing}
 use Rattle.log_binary32.specs.Binary32.{portion}
 use Rattle.log_readings.specs.Lent.{Sample, utilizations, temperatures, utilizationSample, temperatureSample}
 use Rattle.protocol.specs.declared.Operation.{Operation}
 use Rattle.protocol.specs.declared.Operation.the-variants.{Noop, Get, GetVersion, GetNext, GetPrevious, GetKeyRange, Put, Delete, FlushAllData, Setup, GetLog, Security}
 use Rattle.protocol.specs.declared.Permission.{Permission}
-use Rattle.protocol.specs.declared.Permission.the-variants.{Free, Key, Both, Any}
+use Rattle.protocol.specs.declared.Permission.the-variants.{Free, Key, Any}
 use Rattle.protocol.specs.declared.Choice.{Choice}
 use Rattle.protocol.specs.declared.Asked.{Asked}
 use Rattle.protocol.specs.declared.Asked.the-variants.{Request, NotBuilt}
@@ -196,12 +195,11 @@ keyValueIn b = orElse noKeyValue (b .keyValue)
 abbrev pub rangeIn : Body → Range
 rangeIn b = orElse noRange (b .range)
 
--- by which keys a permission is judged: "GETNEXT and GETPREVIOUS .. by the key asked with; GETKEYRANGE by startKey and endKey";
--- "SETUP and SECURITY fit any key"
+-- by which key a permission is judged; "SETUP and SECURITY fit any key". Document 02, CR 2: "NOT_AUTHORIZED is given for these three exactly
+-- when the identity has no scope with the permission that this connection may use"
 abbrev pub permitted : access.Acl → Bool → Permission → Body → Bool
 permitted a protected Free b = true
 permitted a protected (Key p) b = permits a protected p (keyValueIn b .key)
-permitted a protected (Both p) b = permitsRange a protected p (orElse [] (rangeIn b .startKey)) (orElse [] (rangeIn b .endKey))
 permitted a protected (Any p) b = permitsAny a protected p
 
 abbrev pub step9 : State → access.Acl → Permission → Body → Result → Result
@@ -209,17 +207,21 @@ step9 s a p b next = cond (permitted a (s .connection .protected) p b) next (fai
 
 -- ---- step 10: "The operation", by "What each does"
 
--- the entry under a key; at a place
+-- the entry under a key
 abbrev pub entryAt : State → KeyPlace → Option Entry
 entryAt s (At i) = some (getD (entries s) i noEntry)
 entryAt s (Gap i) = none
 
-abbrev pub entryThere : State → EntryPlace → Option Entry
-entryThere s (There i) = some (getD (entries s) i noEntry)
-entryThere s Nothing = none
-
 abbrev pub entryOf : State → List ℕ → Option Entry
 entryOf s k = entryAt s (findIn k (entries s))
+
+-- document 02, CR 2: the entries whose keys "a usable READ scope fits", or a usable RANGE scope: one scope of the ACL holds the permission,
+-- allows the connection and fits the key
+unfoldable pub visible : access.Acl → Bool → ℕ → List Entry → List Entry
+visible a protected permission es = only (λ e. permits a protected permission (e .key)) es
+
+abbrev pub visibleIn : State → access.Acl → ℕ → List Entry
+visibleIn s a permission = visible a (s .connection .protected) permission (entries s)
 
 -- "keyValue 3, 4, 5, 6, …, and the value part unless metadataOnly"
 abbrev pub shown : State → Bool → Option Entry → Result
@@ -274,8 +276,7 @@ inRange r k =
     (isLess (cmp k (orElse [] (r .endKey))) || (r .endInclusive && isEqual (cmp k (orElse [] (r .endKey)))))
 
 unfoldable pub keysIn : Range → List Entry → List (List ℕ)
-keysIn r [] = []
-keysIn r (e ∷ es) = cond (inRange r (e .key)) (e .key ∷ keysIn r es) (keysIn r es)
+keysIn r es = mapL (λ (e : Entry). e .key) (only (λ (e : Entry). inRange r (e .key)) es)
 
 -- "ascending, or descending with reverse, the first maxReturned"
 unfoldable pub keysOf : Range → List Entry → List (List ℕ)
@@ -312,19 +313,21 @@ logged s types = cond (among DEVICE types) (fails s NOT_FOUND) (succeeds s (log 
 abbrev pub secure : State → List Acl → Result
 secure s acls = succeeds (withDevice s (tableBytes (wanted (table s .clusterVersion) acls))) bare []
 
-abbrev pub step10 : State → Operation → Body → List ℕ → Result
-step10 s Noop b v = succeeds s bare []
-step10 s FlushAllData b v = succeeds s bare []
-step10 s Get b v = shown s (keyValueIn b .metadataOnly) (entryOf s (keyValueIn b .key))
-step10 s GetVersion b v = versionShown s (entryOf s (keyValueIn b .key))
-step10 s GetNext b v = shown s (keyValueIn b .metadataOnly) (entryThere s (nextIn (keyValueIn b .key) (entries s)))
-step10 s GetPrevious b v = shown s (keyValueIn b .metadataOnly) (entryThere s (previousIn (keyValueIn b .key) (entries s)))
-step10 s Put b v = put s (keyValueIn b) v
-step10 s Delete b v = deleteBy s (keyValueIn b) (entryOf s (keyValueIn b .key))
-step10 s GetKeyRange b v = succeeds s (range (keysOf (rangeIn b) (entries s))) []
-step10 s Setup b v = setUp s (orElse none (b .setup))
-step10 s GetLog b v = logged s (orElse [] (b .getLog))
-step10 s Security b v = secure s (orElse [] (b .security))
+-- for the ACL of the identity. Document 02, CR 2: "the nearest key on that side that a usable READ scope fits, NOT_FOUND if none"; "lists only
+-- keys that a usable RANGE scope fits, and maxReturned counts after that"
+abbrev pub step10 : State → access.Acl → Operation → Body → List ℕ → Result
+step10 s a Noop b v = succeeds s bare []
+step10 s a FlushAllData b v = succeeds s bare []
+step10 s a Get b v = shown s (keyValueIn b .metadataOnly) (entryOf s (keyValueIn b .key))
+step10 s a GetVersion b v = versionShown s (entryOf s (keyValueIn b .key))
+step10 s a GetNext b v = shown s (keyValueIn b .metadataOnly) (nextOf (keyValueIn b .key) (visibleIn s a READ))
+step10 s a GetPrevious b v = shown s (keyValueIn b .metadataOnly) (previousOf (keyValueIn b .key) (visibleIn s a READ))
+step10 s a Put b v = put s (keyValueIn b) v
+step10 s a Delete b v = deleteBy s (keyValueIn b) (entryOf s (keyValueIn b .key))
+step10 s a GetKeyRange b v = succeeds s (range (keysOf (rangeIn b) (visibleIn s a RANGE))) []
+step10 s a Setup b v = setUp s (orElse none (b .setup))
+step10 s a GetLog b v = logged s (orElse [] (b .getLog))
+step10 s a Security b v = secure s (orElse [] (b .security))
 
 -- ---- steps 4 to 10, for the ACL of the identity, the command and the value part
 
@@ -336,4 +339,4 @@ judge s a c v =
     (step7 (accepted s q) (askedBy (h .messageType)) (λ x.
     step8 (accepted s q) (x .operation) (c .body) v
     (step9 (accepted s q) a (x .permission) (c .body)
-    (step10 (accepted s q) (x .operation) (c .body) v))))))
+    (step10 (accepted s q) a (x .operation) (c .body) v))))))

@@ -51,6 +51,8 @@ pub mod HmacFailureLaws
 pub mod AlgorithmLaws
 pub mod Passes
 pub mod AcceptedLaws
+pub mod Three
+pub mod VisibleLaws
 pub mod PutLaws
 pub mod Bodies
 pub mod BodiesLaws

@@ -8,7 +8,7 @@ use Rattle.access_permission.specs.Permissions as permission
 use Rattle.protocol.specs.declared.Operation.{Operation}
 use Rattle.protocol.specs.declared.Operation.the-variants.{Noop, Get, GetVersion, GetNext, GetPrevious, GetKeyRange, Put, Delete, FlushAllData, Setup, GetLog, Security}
 use Rattle.protocol.specs.declared.Permission.{Permission}
-use Rattle.protocol.specs.declared.Permission.the-variants.{Free, Key, Both, Any}
+use Rattle.protocol.specs.declared.Permission.the-variants.{Free, Key, Any}
 use Rattle.protocol.specs.declared.Choice.{Choice}
 use Rattle.protocol.specs.declared.Asked.{Asked}
 use Rattle.protocol.specs.declared.Asked.the-variants.{Request, NotBuilt}
@@ -24,15 +24,15 @@ abbrev pub row : ℕ → Operation → Permission → Row
 row n o p = record { type = n; operation = o; permission = p }
 
 -- "READ 0: GET, GETVERSION, GETNEXT, GETPREVIOUS. WRITE 1: PUT. DELETE 2: DELETE. RANGE 3: GETKEYRANGE. SETUP 4, SECURITY 8 likewise.
--- NOOP and FLUSHALLDATA need none"; document 02: "permission GETLOG 7, any key"
+-- NOOP and FLUSHALLDATA need none"; document 02: "permission GETLOG 7, any key"; its CR 2: GETNEXT, GETPREVIOUS and GETKEYRANGE are judged with no key
 abbrev pub rows : List Row
 rows =
     row GET Get (Key permission.READ)
     ∷ row PUT Put (Key permission.WRITE)
     ∷ row DELETE Delete (Key permission.DELETE)
-    ∷ row GETNEXT GetNext (Key permission.READ)
-    ∷ row GETPREVIOUS GetPrevious (Key permission.READ)
-    ∷ row GETKEYRANGE GetKeyRange (Both permission.RANGE)
+    ∷ row GETNEXT GetNext (Any permission.READ)
+    ∷ row GETPREVIOUS GetPrevious (Any permission.READ)
+    ∷ row GETKEYRANGE GetKeyRange (Any permission.RANGE)
     ∷ row GETVERSION GetVersion (Key permission.READ)
     ∷ row SETUP Setup (Any permission.SETUP)
     ∷ row GETLOG GetLog (Any permission.GETLOG)

@@ -12,31 +12,33 @@ use Rattle.fields_schema.specs.Tree.{guard, among}
 use Rattle.fields_encoding.specs.Cost.{AtMost}
 use Rattle.fields_encoding.specs.BasicLaws.{never}
 use Rattle.access_record.specs.Table as access
+use Rattle.access_permission.specs.Permissions.{READ, RANGE}
+use Rattle.access_permission.specs.Permission.{permits}
+use Rattle.store_block.specs.Order.{cmp}
+use Rattle.store_block.specs.Block.{isLess}
 use Rattle.store_block.specs.Entry.{Entry, noEntry, Fit}
 use Rattle.store_layout.specs.Store.{blocksIn, AllFit, Good, storeGood}
 use Rattle.store_layout.specs.CheckLaws.{store-decides}
 use Rattle.store_layout.specs.declared.PutAnswer.{PutAnswer}
 use Rattle.store_layout.specs.declared.PutAnswer.the-variants.{Stored, Full, Unfit}
-use Rattle.store_layout.specs.Entries.{putAnswer, putStore, deleteStore, findIn, nextIn, previousIn}
+use Rattle.store_layout.specs.Entries.{putAnswer, putStore, deleteStore, findIn, nextOf, previousOf}
 use Rattle.log_readings.specs.Lent.{Lent, Sample, placeAt, placesFrom, temperatures, utilizations, readingsGood, temperatureSample, utilizationSample}
 use Rattle.log_readings.specs.Places.{Placed}
 use Rattle.log_readings.specs.LentLaws.{name-bounds, good-temperatures, good-utilizations, temperatures-placed, utilizations-placed}
 use Rattle.store_layout.specs.declared.KeyPlace.{KeyPlace}
 use Rattle.store_layout.specs.declared.KeyPlace.the-variants.{At, Gap}
-use Rattle.store_layout.specs.declared.EntryPlace.{EntryPlace}
-use Rattle.store_layout.specs.declared.EntryPlace.the-variants.{There, Nothing}
 use Rattle.protocol.specs.declared.Operation.{Operation}
 use Rattle.protocol.specs.declared.Operation.the-variants.{Noop, Get, GetVersion, GetNext, GetPrevious, GetKeyRange, Put, Delete, FlushAllData, Setup, GetLog, Security}
 use Rattle.protocol.specs.declared.Choice.{Choice}
 use Rattle.protocol.specs.declared.Asked.{Asked}
 use Rattle.protocol.specs.declared.Asked.the-variants.{Request, NotBuilt}
 use Rattle.protocol.specs.State.{State, table, entries, withStore, accepted}
-use Rattle.base_definitions.specs.Lists.{mapL, isEmpty}
+use Rattle.base_definitions.specs.Lists.{mapL, only, first, isEmpty}
 use Rattle.base_definitions.specs.Options.{orElse}
 use Rattle.protocol.specs.Command.{Header, KeyValue, Range, Body, Command}
 use Rattle.protocol.specs.Operation.{askedBy}
 use Rattle.protocol.specs.Judge.{Capacity, ReplyBody, Result, bare, keyValue, range, log, fails, succeeds, bothThere, step4, aboveLast, step7, present, rangeGood, broken, fault, step8}
-use Rattle.protocol.specs.Judge.{noRange, keyValueIn, rangeIn, permitted, entryAt, entryThere, entryOf, shown, versionShown, versionRight, newEntry, changed, putBy, put, deleteBy, inRange, keysIn, keysOf, setUp, capacityOf, logWith, logOf, logged, step10, judge}
+use Rattle.protocol.specs.Judge.{noRange, keyValueIn, rangeIn, permitted, entryAt, entryOf, visible, visibleIn, shown, versionShown, versionRight, newEntry, changed, putBy, put, deleteBy, inRange, keysIn, keysOf, setUp, capacityOf, logWith, logOf, logged, step10, judge}
 use Rattle.protocol.specs.FaultCode.{FaultCode, nothing, no-algorithm, invalid}
 use Rattle.protocol.specs.FaultLaws.{fault-code}
 use Rattle.protocol.specs.ReplyFits.{CodeNamed, ShortNames, LogFits, BodyFits, bares, keyValues, ranges, logs}
@@ -95,16 +97,41 @@ some-fits : (o : Option Entry) → Type 0
 some-fits none = Unit {0}
 some-fits (some e) = PartsFit e
 
+only-fit : (f : Entry → Bool) {es : List Entry} → AllFit es → AllFit (only f es)
+unfolding only
+only-fit f AllFit.none = AllFit.none
+only-fit f (AllFit.more {e = e} {es = es} h k) = go (f e) (only-fit f k)
+  where
+    go : (t : Bool) → AllFit (only f es) → AllFit (cond t (e ∷ only f es) (only f es))
+    go true ih = AllFit.more h ih
+    go false ih = ih
+
+reversed-fit : {xs ys : List Entry} → AllFit xs → AllFit ys → AllFit (reverseAux xs ys)
+reversed-fit AllFit.none k = k
+reversed-fit (AllFit.more h hs) k = reversed-fit hs (AllFit.more h k)
+
+first-fits : {es : List Entry} → AllFit es → some-fits (first es)
+unfolding some-fits
+first-fits AllFit.none = record {}
+first-fits (AllFit.more h k) = fit-parts h
+
 module _ (s : State) (fit : AllFit (entries s)) where
   entry-at : (f : KeyPlace) → some-fits (entryAt s f)
   unfolding some-fits
   entry-at (At i) = at-fits fit i
   entry-at (Gap i) = record {}
 
-  entry-there : (p : EntryPlace) → some-fits (entryThere s p)
-  unfolding some-fits
-  entry-there (There i) = at-fits fit i
-  entry-there Nothing = record {}
+  visible-fit : (a : access.Acl) (p : ℕ) → AllFit (visibleIn s a p)
+  unfolding visible
+  visible-fit a p = only-fit (λ e. permits a (s .connection .protected) p (e .key)) fit
+
+  next-fits : (a : access.Acl) (k : List ℕ) → some-fits (nextOf k (visibleIn s a READ))
+  unfolding nextOf
+  next-fits a k = first-fits (only-fit (λ e. isLess (cmp k (e .key))) (visible-fit a READ))
+
+  previous-fits : (a : access.Acl) (k : List ℕ) → some-fits (previousOf k (visibleIn s a READ))
+  unfolding previousOf
+  previous-fits a k = first-fits (reversed-fit (only-fit (λ e. isLess (cmp (e .key) k)) (visible-fit a READ)) AllFit.none)
 
 value-short : (t : Bool) (v : List ℕ) → length v ≤ 384 → length (cond t [] v) ≤ 384
 value-short true v h = omega arith
@@ -140,14 +167,10 @@ delete-sent s k (some e) = choosing (versionRight k (some e)) (changed-sent s (d
 
 -- ---- the keys of a range
 
-keys-short : (r : Range) {es : List Entry} → AllFit es → AtMost 64 (keysIn r es)
-unfolding keysIn
-keys-short r AllFit.none = record {}
-keys-short r (AllFit.more {e = e} {es = es} h k) = go (inRange r (e .key)) (keys-short r k)
-  where
-    go : (t : Bool) → AtMost 64 (keysIn r es) → AtMost 64 (cond t (e .key ∷ keysIn r es) (keysIn r es))
-    go true ih = (h .key-fits, ih)
-    go false ih = ih
+keys-short : {es : List Entry} → AllFit es → AtMost 64 (mapL (λ (e : Entry). e .key) es)
+unfolding mapL
+keys-short AllFit.none = record {}
+keys-short (AllFit.more h k) = (h .key-fits, keys-short k)
 
 reversed-short : (m : ℕ) (xs ys : List (List ℕ)) → AtMost m xs → AtMost m ys → AtMost m (reverseAux xs ys)
 reversed-short m [] ys h k = k
@@ -166,17 +189,20 @@ take-few zero xs = omega arith
 take-few (suc n) [] = omega arith
 take-few (suc n) (x ∷ xs) = omega (arith, take-few n xs)
 
-range-sent : (s : State) (r : Range) → AllFit (entries s) → r .maxReturned ≤ 32 → Sendable (succeeds s (range (keysOf r (entries s))) [])
-unfolding keysOf
-range-sent s r fit l =
-    succeeding s (range (take (r .maxReturned) (cond (r .reverse) (reverse (keysIn r (entries s))) (keysIn r (entries s))))) []
-    (ranges (omega (arith, take-few (r .maxReturned) (cond (r .reverse) (reverse (keysIn r (entries s))) (keysIn r (entries s)))))
-    (take-short 64 (r .maxReturned) (cond (r .reverse) (reverse (keysIn r (entries s))) (keysIn r (entries s))) (go (r .reverse))))
+range-sent : (s : State) (r : Range) (es : List Entry) → AllFit es → r .maxReturned ≤ 32 → Sendable (succeeds s (range (keysOf r es)) [])
+unfolding keysOf keysIn
+range-sent s r es fit l =
+    succeeding s (range (take (r .maxReturned) (cond (r .reverse) (reverse (keysIn r es)) (keysIn r es)))) []
+    (ranges (omega (arith, take-few (r .maxReturned) (cond (r .reverse) (reverse (keysIn r es)) (keysIn r es))))
+    (take-short 64 (r .maxReturned) (cond (r .reverse) (reverse (keysIn r es)) (keysIn r es)) (go (r .reverse))))
     (omega arith)
   where
-    go : (t : Bool) → AtMost 64 (cond t (reverse (keysIn r (entries s))) (keysIn r (entries s)))
-    go true = reverse-short 64 (keysIn r (entries s)) (keys-short r fit)
-    go false = keys-short r fit
+    short : AtMost 64 (keysIn r es)
+    short = keys-short (only-fit (λ (e : Entry). inRange r (e .key)) fit)
+
+    go : (t : Bool) → AtMost 64 (cond t (reverse (keysIn r es)) (keysIn r es))
+    go true = reverse-short 64 (keysIn r es) short
+    go false = short
 
 both-second : (a b : Bool) → (a && b) ≡ true → b ≡ true
 both-second true b e = e
@@ -260,23 +286,23 @@ log-sent s types g h =
     choosing (among 7 types) (failing s _ (known-code refl))
     (succeeding s (log (logOf s types)) [] (logs (log-fits (s .store) (s .readings) (among 0 types) (among 1 types) (among 2 types) (among 6 types) g h)) (omega arith))
 
-step10-sent : (s : State) (o : Operation) (b : Body) (v : List ℕ) → Good (s .store) → readingsGood (s .readings) ≡ true → fault o b v ≡ 0 → Sendable (step10 s o b v)
-step10-sent s Noop b v good r e = succeeding s bare [] bares (omega arith)
-step10-sent s FlushAllData b v good r e = succeeding s bare [] bares (omega arith)
-step10-sent s Get b v good r e = shown-sent s (keyValueIn b .metadataOnly) (entryOf s (keyValueIn b .key)) (entry-at s (good .fit) (findIn (keyValueIn b .key) (entries s)))
-step10-sent s GetVersion b v good r e = version-sent s (entryOf s (keyValueIn b .key)) (entry-at s (good .fit) (findIn (keyValueIn b .key) (entries s)))
-step10-sent s GetNext b v good r e =
-    shown-sent s (keyValueIn b .metadataOnly) (entryThere s (nextIn (keyValueIn b .key) (entries s))) (entry-there s (good .fit) (nextIn (keyValueIn b .key) (entries s)))
-step10-sent s GetPrevious b v good r e =
-    shown-sent s (keyValueIn b .metadataOnly) (entryThere s (previousIn (keyValueIn b .key) (entries s))) (entry-there s (good .fit) (previousIn (keyValueIn b .key) (entries s)))
-step10-sent s Put b v good r e = put-sent s (keyValueIn b) v
-step10-sent s Delete b v good r e = delete-sent s (keyValueIn b) (entryOf s (keyValueIn b .key))
-step10-sent s GetKeyRange b v good r e =
-    range-sent s (rangeIn b) (good .fit)
+step10-sent : (s : State) (a : access.Acl) (o : Operation) (b : Body) (v : List ℕ) → Good (s .store) → readingsGood (s .readings) ≡ true → fault o b v ≡ 0 → Sendable (step10 s a o b v)
+step10-sent s a Noop b v good r e = succeeding s bare [] bares (omega arith)
+step10-sent s a FlushAllData b v good r e = succeeding s bare [] bares (omega arith)
+step10-sent s a Get b v good r e = shown-sent s (keyValueIn b .metadataOnly) (entryOf s (keyValueIn b .key)) (entry-at s (good .fit) (findIn (keyValueIn b .key) (entries s)))
+step10-sent s a GetVersion b v good r e = version-sent s (entryOf s (keyValueIn b .key)) (entry-at s (good .fit) (findIn (keyValueIn b .key) (entries s)))
+step10-sent s a GetNext b v good r e =
+    shown-sent s (keyValueIn b .metadataOnly) (nextOf (keyValueIn b .key) (visibleIn s a READ)) (next-fits s (good .fit) a (keyValueIn b .key))
+step10-sent s a GetPrevious b v good r e =
+    shown-sent s (keyValueIn b .metadataOnly) (previousOf (keyValueIn b .key) (visibleIn s a READ)) (previous-fits s (good .fit) a (keyValueIn b .key))
+step10-sent s a Put b v good r e = put-sent s (keyValueIn b) v
+step10-sent s a Delete b v good r e = delete-sent s (keyValueIn b) (entryOf s (keyValueIn b .key))
+step10-sent s a GetKeyRange b v good r e =
+    range-sent s (rangeIn b) (visibleIn s a RANGE) (visible-fit s (good .fit) a RANGE)
     (limit-present (b .range) (both-second (isEmpty v) (present rangeGood (b .range)) (unbroken (isEmpty v && present rangeGood (b .range)) e)))
-step10-sent s Setup b v good r e = setup-sent s (orElse none (b .setup))
-step10-sent s GetLog b v good r e = log-sent s (orElse [] (b .getLog)) r (good .most)
-step10-sent s Security b v good r e = record { code = known-code refl; body = bares; value = omega arith }
+step10-sent s a Setup b v good r e = setup-sent s (orElse none (b .setup))
+step10-sent s a GetLog b v good r e = log-sent s (orElse [] (b .getLog)) r (good .most)
+step10-sent s a Security b v good r e = record { code = known-code refl; body = bares; value = omega arith }
 
 -- ---- the whole judgement, over a good store and good readings
 
@@ -290,6 +316,6 @@ judge-sent s a c v good r =
     (step7-sent (accepted s q) (askedBy (h .messageType)) _ (λ x.
     step8-sent (accepted s q) (x .operation) (c .body) v _ (λ e.
     choosing (permitted a (s .connection .protected) (x .permission) (c .body))
-    (step10-sent (accepted s q) (x .operation) (c .body) v g r e) (failing (accepted s q) _ (known-code refl)))))
+    (step10-sent (accepted s q) a (x .operation) (c .body) v g r e) (failing (accepted s q) _ (known-code refl)))))
     (failing s _ (known-code refl)))
     (failing s _ (known-code refl)))

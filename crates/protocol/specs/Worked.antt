@@ -8,7 +8,8 @@ use lib.ListN.{length, drop}
 use Rattle.fields_schema.specs.Tree.{Tree}
 use Rattle.fields_encoding.specs.Encode.{encode}
 use Rattle.access_record.specs.Table as access
-use Rattle.access_permission.specs.Permission.{fits}
+use Rattle.access_permission.specs.Permissions.{READ}
+use Rattle.access_permission.specs.Permission.{fits, permits}
 use Rattle.store_block.specs.Entry.{Entry, entry}
 use Rattle.store_block.specs.Block.{sumFrom, body, block}
 use Rattle.protocol.specs.declared.Operation.the-variants.{GetNext, GetPrevious, GetKeyRange}
@@ -79,12 +80,14 @@ pub record Readings : Type 0 where
   pub W6 : fits test-scope (0x73 ∷ 0x6F ∷ 0x6D ∷ 0x65 ∷ 0x74 ∷ 0x68 ∷ 0x69 ∷ 0x6E ∷ 0x67 ∷ 0x45 ∷ 0x6C ∷ 0x73 ∷ 0x65 ∷ []) ≡ false
   pub W7 : fits test-scope (0x74 ∷ 0x65 ∷ 0x73 ∷ 0x74 ∷ 0x31 ∷ 0x32 ∷ 0x33 ∷ []) ≡ false
   pub W8 : fits test-scope (0x31 ∷ 0x32 ∷ 0x33 ∷ 0x34 ∷ 0x74 ∷ 0x65 ∷ 0x73 ∷ 0x74 ∷ []) ≡ false
-  -- "Stored key0, key2; next of key1 is key2", whatever else the entries hold
-  pub W9 : (s : State) (v0 g0 w0 v2 g2 w2 : List ℕ) (a0 a2 : ℕ) → entries s ≡ entry (key-of 0x30) v0 g0 w0 a0 ∷ entry (key-of 0x32) v2 g2 w2 a2 ∷ []
-      → step10 s GetNext (asking (key-of 0x31)) [] ≡ told s (entry (key-of 0x32) v2 g2 w2 a2)
-  -- "Previous of key1 is key0; of key0, NOT_FOUND"
-  pub W10 : (s : State) (v0 g0 w0 v2 g2 w2 : List ℕ) (a0 a2 : ℕ) → entries s ≡ entry (key-of 0x30) v0 g0 w0 a0 ∷ entry (key-of 0x32) v2 g2 w2 a2 ∷ []
-      → (step10 s GetPrevious (asking (key-of 0x31)) [] ≡ told s (entry (key-of 0x30) v0 g0 w0 a0))
-      × (step10 s GetPrevious (asking (key-of 0x30)) [] ≡ fails s 7)
-  -- "start = end, one flag off: empty list", for every key, limit, order and store
-  pub W11 : (s : State) (k : List ℕ) (i j : Bool) (n : ℕ) (r : Bool) → (i && j) ≡ false → step10 s GetKeyRange (ranging (same-ends k i j n r)) [] ≡ succeeds s (range []) []
+  -- "Stored key0, key2; next of key1 is key2", whatever else the entries hold, to an identity that may see key2
+  pub W9 : (s : State) (a : access.Acl) (v0 g0 w0 v2 g2 w2 : List ℕ) (a0 a2 : ℕ) → entries s ≡ entry (key-of 0x30) v0 g0 w0 a0 ∷ entry (key-of 0x32) v2 g2 w2 a2 ∷ []
+      → permits a (s .connection .protected) READ (key-of 0x32) ≡ true
+      → step10 s a GetNext (asking (key-of 0x31)) [] ≡ told s (entry (key-of 0x32) v2 g2 w2 a2)
+  -- "Previous of key1 is key0", to an identity that may see key0; "of key0, NOT_FOUND", to any
+  pub W10 : (s : State) (a : access.Acl) (v0 g0 w0 v2 g2 w2 : List ℕ) (a0 a2 : ℕ) → entries s ≡ entry (key-of 0x30) v0 g0 w0 a0 ∷ entry (key-of 0x32) v2 g2 w2 a2 ∷ []
+      → (permits a (s .connection .protected) READ (key-of 0x30) ≡ true → step10 s a GetPrevious (asking (key-of 0x31)) [] ≡ told s (entry (key-of 0x30) v0 g0 w0 a0))
+      × (step10 s a GetPrevious (asking (key-of 0x30)) [] ≡ fails s 7)
+  -- "start = end, one flag off: empty list", for every identity, key, limit, order and store
+  pub W11 : (s : State) (a : access.Acl) (k : List ℕ) (i j : Bool) (n : ℕ) (r : Bool) → (i && j) ≡ false
+      → step10 s a GetKeyRange (ranging (same-ends k i j n r)) [] ≡ succeeds s (range []) []

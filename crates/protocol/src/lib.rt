@@ -20,11 +20,10 @@ pub enum Operation {
     Security,
 }
 
-// The permission that a request needs, by its number: none, one for its key, one for both of its range keys, or one for any key.
+// The permission that a request needs, by its number: none, one for its key, or one for any key.
 pub enum Permission {
     Free,
     Key(u8),
-    Both(u8),
     Any(u8),
 }
 

@@ -60,7 +60,7 @@ pub data Judged (s : State) (a : access.Acl) (c : Command) (v : List ℕ) : Resu
   before : {code : ℕ} → (code ≡ SUCCESS → ⊥) → (code ≡ NOT_FOUND → ⊥) → Judged s a c v (fails s code)
   after : {q code : ℕ} → Passes s c q → (code ≡ SUCCESS → ⊥) → (code ≡ NOT_FOUND → ⊥) → Judged s a c v (fails (accepted s q) code)
   obeyed : {q : ℕ} {x : Choice} → Passes s c q → askedBy (typeOf (c .header)) ≡ Request x → fault (x .operation) (c .body) v ≡ 0
-      → permitted a (s .connection .protected) (x .permission) (c .body) ≡ true → Judged s a c v (step10 (accepted s q) (x .operation) (c .body) v)
+      → permitted a (s .connection .protected) (x .permission) (c .body) ≡ true → Judged s a c v (step10 (accepted s q) a (x .operation) (c .body) v)
 
 -- what an answered call on the input xs leaves: the connection closed, all as it was, or what steps 4 to 10 leave
 pub data Left (s : State) (xs : List ℕ) : State → Type 0 where

@@ -14,9 +14,10 @@ use Rattle.base_definitions.specs.Options.{orElse}
 use Rattle.access_record.specs.Table as access
 use Rattle.access_record.specs.Table.{tableGood}
 use Rattle.access_record.specs.TableLaws.{both-fst, both-snd}
+use Rattle.access_permission.specs.Permissions.{READ}
 use Rattle.store_block.specs.Entry.{Entry}
 use Rattle.store_layout.specs.Store.{storeGood}
-use Rattle.store_layout.specs.Entries.{putAnswer, deleteStore, nextIn, previousIn}
+use Rattle.store_layout.specs.Entries.{putAnswer, deleteStore, nextOf, previousOf}
 use Rattle.store_layout.specs.declared.PutAnswer.{PutAnswer}
 use Rattle.store_layout.specs.declared.PutAnswer.the-variants.{Stored, Full, Unfit}
 use Rattle.log_readings.specs.Lent.{readingsGood}
@@ -26,13 +27,13 @@ use Rattle.protocol.specs.declared.Choice.{Choice}
 use Rattle.protocol.specs.declared.Asked.{Asked}
 use Rattle.protocol.specs.declared.Asked.the-variants.{Request, NotBuilt}
 use Rattle.protocol.specs.StatusCode.{SUCCESS, NOT_FOUND}
-use Rattle.protocol.specs.State.{State, table, entries, accepted, closing}
+use Rattle.protocol.specs.State.{State, table, accepted, closing}
 use Rattle.protocol.specs.Command.{Header, Body, Command, commandOf}
 use Rattle.protocol.specs.Operation.{askedBy}
 use Rattle.protocol.specs.Frame.{Framing, more, closes, whole, frameOf}
 use Rattle.protocol.specs.Reading as reads
 use Rattle.protocol.specs.Reading.{Reading, undecodable, read}
-use Rattle.protocol.specs.Judge.{Result, fails, bothThere, step4, step5, aboveLast, step6, step7, fault, step8, keyValueIn, permitted, step9, entryThere, entryOf, shown, versionShown, versionRight, newEntry, changed, putBy, put, deleteBy, setUp, step10, judge}
+use Rattle.protocol.specs.Judge.{Result, fails, bothThere, step4, step5, aboveLast, step6, step7, fault, step8, keyValueIn, permitted, step9, entryOf, visibleIn, shown, versionShown, versionRight, newEntry, changed, putBy, put, deleteBy, setUp, step10, judge}
 use Rattle.protocol.specs.Passes.{Passes}
 use Rattle.protocol.specs.FaultCode.{FaultCode, nothing, no-algorithm, invalid}
 use Rattle.protocol.specs.FaultLaws.{fault-code}
@@ -88,19 +89,19 @@ log-effect : (s : State) (b : Body) (v : List ℕ) (x : Bool) {r : Result} → E
 log-effect s b v true e = failing 7 (λ z. omega arith)
 log-effect s b v false e = e
 
-pub step10-effect : (s : State) (o : Operation) (b : Body) (v : List ℕ) → Effect s b v o (step10 s o b v)
-step10-effect s Noop b v = shows refl
-step10-effect s FlushAllData b v = shows refl
-step10-effect s Get b v = by-entry Get refl (keyValueIn b .metadataOnly) (entryOf s (keyValueIn b .key))
-step10-effect s GetVersion b v = by-version (entryOf s (keyValueIn b .key))
-step10-effect s GetNext b v = by-entry GetNext refl (keyValueIn b .metadataOnly) (entryThere s (nextIn (keyValueIn b .key) (entries s)))
-step10-effect s GetPrevious b v = by-entry GetPrevious refl (keyValueIn b .metadataOnly) (entryThere s (previousIn (keyValueIn b .key) (entries s)))
-step10-effect s Put b v = put-effect s b v
-step10-effect s Delete b v = delete-effect s b v
-step10-effect s GetKeyRange b v = shows refl
-step10-effect s Setup b v = setup-effect s b v (orElse none (b .setup))
-step10-effect s GetLog b v = log-effect s b v (among 7 (orElse [] (b .getLog))) (shows refl)
-step10-effect s Security b v = secures
+pub step10-effect : (s : State) (a : access.Acl) (o : Operation) (b : Body) (v : List ℕ) → Effect s b v o (step10 s a o b v)
+step10-effect s a Noop b v = shows refl
+step10-effect s a FlushAllData b v = shows refl
+step10-effect s a Get b v = by-entry Get refl (keyValueIn b .metadataOnly) (entryOf s (keyValueIn b .key))
+step10-effect s a GetVersion b v = by-version (entryOf s (keyValueIn b .key))
+step10-effect s a GetNext b v = by-entry GetNext refl (keyValueIn b .metadataOnly) (nextOf (keyValueIn b .key) (visibleIn s a READ))
+step10-effect s a GetPrevious b v = by-entry GetPrevious refl (keyValueIn b .metadataOnly) (previousOf (keyValueIn b .key) (visibleIn s a READ))
+step10-effect s a Put b v = put-effect s b v
+step10-effect s a Delete b v = delete-effect s b v
+step10-effect s a GetKeyRange b v = shows refl
+step10-effect s a Setup b v = setup-effect s b v (orElse none (b .setup))
+step10-effect s a GetLog b v = log-effect s b v (among 7 (orElse [] (b .getLog))) (shows refl)
+step10-effect s a Security b v = secures
 
 -- ---- steps 4 to 10
 
@@ -123,12 +124,12 @@ module _ (s : State) (a : access.Acl) (c : Command) (v : List ℕ) where
   abbrev onwards : ℕ → Asked → Result
   onwards q o =
       step7 (accepted s q) o (λ x.
-      step8 (accepted s q) (x .operation) (c .body) v (step9 (accepted s q) a (x .permission) (c .body) (step10 (accepted s q) (x .operation) (c .body) v)))
+      step8 (accepted s q) (x .operation) (c .body) v (step9 (accepted s q) a (x .permission) (c .body) (step10 (accepted s q) a (x .operation) (c .body) v)))
 
   asked-by : (q : ℕ) (o : Asked) → Passes s c q → askedBy (typeOf (c .header)) ≡ o → Judged s a c v (onwards q o)
   asked-by q (Request x) g e =
-      faulty q g (step9 (accepted s q) a (x .permission) (c .body) (step10 (accepted s q) (x .operation) (c .body) v)) (fault-code (x .operation) (c .body) v) (λ f.
-      chosen (permitted a (s .connection .protected) (x .permission) (c .body)) (step10 (accepted s q) (x .operation) (c .body) v) (fails (accepted s q) 3) (λ p. obeyed g e f p) (late q g 3 (λ e. omega arith) (λ e. omega arith)))
+      faulty q g (step9 (accepted s q) a (x .permission) (c .body) (step10 (accepted s q) a (x .operation) (c .body) v)) (fault-code (x .operation) (c .body) v) (λ f.
+      chosen (permitted a (s .connection .protected) (x .permission) (c .body)) (step10 (accepted s q) a (x .operation) (c .body) v) (fails (accepted s q) 3) (λ p. obeyed g e f p) (late q g 3 (λ e. omega arith) (λ e. omega arith)))
   asked-by q NotBuilt g e = late q g 16 (λ e. omega arith) (λ e. omega arith)
 
   both-there : (h : Header) (i q : Option ℕ) → c .header ≡ some h → h .connectionID ≡ i → h .sequence ≡ q
@@ -161,12 +162,12 @@ module _ (s : State) (a : access.Acl) (c : Command) (v : List ℕ) where
 -- and where steps 4 to 9 pass, the result is that of step 10
 pub judge-obeys : (s : State) (a : access.Acl) (c : Command) (v : List ℕ) (q : ℕ) (x : Choice) → Passes s c q → askedBy (typeOf (c .header)) ≡ Request x
     → fault (x .operation) (c .body) v ≡ 0 → permitted a (s .connection .protected) (x .permission) (c .body) ≡ true
-    → judge s a c v ≡ step10 (accepted s q) (x .operation) (c .body) v
+    → judge s a c v ≡ step10 (accepted s q) a (x .operation) (c .body) v
 unfolding judge
 judge-obeys s a c v q x p e f m =
     let h = p .header in
     let n = s .connection .number in
-    let next = step10 (accepted s q) (x .operation) (c .body) v in
+    let next = step10 (accepted s q) a (x .operation) (c .body) v in
     let permit = step9 (accepted s q) a (x .permission) (c .body) next in
     let asked : askedBy (h .messageType) ≡ Request x = sym (ap (λ o. askedBy (typeOf o)) (p .there)) ∙ e in
     ap (λ x. step4 s x (λ h connection q. step5 s h (step6 s connection q (onwards s a c v q (askedBy (h .messageType)))))) (p .there)

@@ -109,7 +109,7 @@ judged-good : (s : State) (a : access.Acl) (c : Command) (v : List ℕ) (x : Res
 judged-good s a c v x g h (before n k) = (g, h)
 judged-good s a c v x g h (after w n k) = (g, h)
 judged-good s a c v y g h (obeyed {q = q} {x = x} w e f p) =
-    let t = step10-effect (accepted s q) (x .operation) (c .body) v in
+    let t = step10-effect (accepted s q) _ (x .operation) (c .body) v in
     (effect-store (accepted s q) (c .body) v (x .operation) _ g t, effect-table (accepted s q) (c .body) v (x .operation) _ h f t)
 
 left-good : (s : State) (xs : List ℕ) (s' : State) → Good (s .store) → tableGood (table s) ≡ true → Left s xs s' → Good (s' .store) × (tableGood (table s') ≡ true)

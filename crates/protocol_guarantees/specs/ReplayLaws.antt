@@ -66,7 +66,7 @@ left-connection s xs s' (cases.judged m v rest i key t a d e p) = go (judge s a 
     go x (after {q = q} w n k) = heard q (w .later)
     go y (obeyed {q = q} {x = x} w e f m) =
         subst (Next (s .connection))
-        (sym (effect-connection (accepted s q) (commandOf t .body) v (x .operation) _ (step10-effect (accepted s q) (x .operation) (commandOf t .body) v)))
+        (sym (effect-connection (accepted s q) (commandOf t .body) v (x .operation) _ (step10-effect (accepted s q) _ (x .operation) (commandOf t .body) v)))
         (heard q (w .later))
 
 next : (s : State) (room : ℕ) (xs r : List ℕ) (s' : State) (n : ℕ) → answers s room xs ≡ answered r s' n → Next (s .connection) (s' .connection)

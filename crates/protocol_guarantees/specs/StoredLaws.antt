@@ -63,8 +63,8 @@ module _ {s : State} {t : Tree} {v r : List ℕ} {s' : State} (a : Answered s t 
       go y (obeyed {q = q} {x = x} w e g m) z =
           let p = x .operation in
           let i : p ≡ o = one-operation e asks in
-          f q (step10 (accepted s q) p (commandOf t .body) v)
-          (subst (λ o. Effect (accepted s q) (commandOf t .body) v o (step10 (accepted s q) p (commandOf t .body) v)) i (step10-effect (accepted s q) p (commandOf t .body) v)) z
+          f q (step10 (accepted s q) (came a .acl) p (commandOf t .body) v)
+          (subst (λ o. Effect (accepted s q) (commandOf t .body) v o (step10 (accepted s q) (came a .acl) p (commandOf t .body) v)) i (step10-effect (accepted s q) (came a .acl) p (commandOf t .body) v)) z
 
   -- AN ACKNOWLEDGED PUT IS STORED: the new entry is under its key
   pub put-stored : Asks t Put → under (sent .key) (entries s') ≡ some (newEntry sent v)
@@ -125,10 +125,10 @@ got {s} {t} {v} {r} a g o e =
     let q = g .sequence in
     let one : some (g .acl) ≡ some (c .acl) = sym (g .known) ∙ c .known in
     let same : g .acl ≡ c .acl = cc in
-    let j : judge s (c .acl) (commandOf t) v ≡ step10 (accepted s q) Get (commandOf t .body) v =
+    let j : judge s (c .acl) (commandOf t) v ≡ step10 (accepted s q) (c .acl) Get (commandOf t .body) v =
     judge-obeys s (c .acl) (commandOf t) v q (g .choice) (g .passes) (g .chosen) (ap (λ o. fault o (commandOf t .body) v) (g .asks) ∙ g .well-formed)
     (ap (λ x. permitted x (s .connection .protected) (g .choice .permission) (commandOf t .body)) (sym same) ∙ g .may)
-    ∙ ap (λ o. step10 (accepted s q) o (commandOf t .body) v) (g .asks) in
+    ∙ ap (λ o. step10 (accepted s q) (c .acl) o (commandOf t .body) v) (g .asks) in
     let k : entryOf (accepted s q) (keyValueSent t .key) ≡ o = entry-under (accepted s q) (keyValueSent t .key) ∙ e in
     subst (λ (y : Result). Replies r (y .code) (y .body) (y .value)) (j ∙ ap (shown (accepted s q) (keyValueSent t .metadataOnly)) k) (c .replies)
 

@@ -50,7 +50,7 @@ module _ (P : State → Type 0) (s : State) (xs : List ℕ) (shut : P (closing s
       go x (before n k) = same
       go x (after {q = q} w n k) = counted q
       go y (obeyed {q = q} {x = x} w asked f p) =
-          obeys m v rest i key t d e q (x .operation) _ (ap operationIn asked) (step10-effect (accepted s q) (x .operation) (commandOf t .body) v)
+          obeys m v rest i key t d e q (x .operation) _ (ap operationIn asked) (step10-effect (accepted s q) _ (x .operation) (commandOf t .body) v)
 
 -- ---- the entry under a key
 
@@ -175,7 +175,7 @@ failure-stays {s} {t} {v} a h n =
     go x (before c k) z = inl refl
     go x (after {q = q} w c k) z = inr (q, refl)
     go y (obeyed {q = q} {x = x} w e f p) z =
-        inr (q, effect-fails (accepted s q) (commandOf t .body) v (x .operation) _ z (step10-effect (accepted s q) (x .operation) (commandOf t .body) v))
+        inr (q, effect-fails (accepted s q) (commandOf t .body) v (x .operation) _ z (step10-effect (accepted s q) _ (x .operation) (commandOf t .body) v))
 
 -- NOOP, FLUSHALLDATA AND A READ change nothing but the sequence, whatever comes of them
 pub reading-stays : {s : State} {t : Tree} {v r : List ℕ} {s' : State} → Answered s t v r s' → (o : Operation) → Asks t o → onlyReads o ≡ true → OnlySequence s s'
@@ -186,4 +186,4 @@ reading-stays {s} {t} {v} a o asks n =
     go x (before c k) = inl refl
     go x (after {q = q} w c k) = inr (q, refl)
     go y (obeyed {q = q} {x = x} w e f m) =
-        inr (q, effect-reads (accepted s q) (commandOf t .body) v (x .operation) _ (ap onlyReads (one-operation e asks) ∙ n) (step10-effect (accepted s q) (x .operation) (commandOf t .body) v))
+        inr (q, effect-reads (accepted s q) (commandOf t .body) v (x .operation) _ (ap onlyReads (one-operation e asks) ∙ n) (step10-effect (accepted s q) _ (x .operation) (commandOf t .body) v))

@@ -20,9 +20,8 @@ use Rattle.fields_schema.specs.Tree.{among, isSome, isInt32, mapO, Tree, done, 
 use Rattle.fields_encoding.specs.Encode.{encode}
 use Rattle.store_block.specs.Entry.{Entry, entry}
 use Rattle.store_block.specs.Block.{decode, fitTest, blockTest, sumTest}
-use Rattle.store_layout.specs.declared.EntryPlace.the-variants.{Nothing}
 use Rattle.store_layout.specs.Store.{sizeGood, storeGood}
-use Rattle.store_layout.specs.Entries.{putAnswer, nextIn, previousIn}
+use Rattle.store_layout.specs.Entries.{putAnswer, nextOf, previousOf}
 use Rattle.store_layout.specs.declared.PutAnswer.the-variants.{Stored, Full}
 use Rattle.access_record.specs.Table as access
 use Rattle.access_record.specs.Table.{tableGood, hostTable}
@@ -37,12 +36,12 @@ use Rattle.protocol.specs.declared.Permission.{Permission}
 use Rattle.protocol.specs.declared.Choice.{Choice}
 use Rattle.protocol.specs.declared.Asked.{Asked}
 use Rattle.protocol.specs.declared.Asked.the-variants.{Request, NotBuilt}
-use Rattle.protocol.specs.State.{State, table, entries, accepted}
+use Rattle.protocol.specs.State.{State, table, accepted}
 use Rattle.protocol.specs.Command.{Header, Scope, Acl, Body, Command, noBody, headerOf, rangeOf, scopeOf, aclOf, commandOf}
 use Rattle.protocol.specs.Operation.{askedBy, replyType}
 use Rattle.protocol.specs.Frame.{more, closes, whole, frameOf}
 use Rattle.protocol.specs.Reading.{envelope, envelopeOf, readMessage, decodes}
-use Rattle.protocol.specs.Judge.{bare, keyValue, range, log, fails, aboveLast, fault, keyValueIn, permitted, entryOf, versionRight, newEntry, capacityOf, logOf, step10, judge}
+use Rattle.protocol.specs.Judge.{bare, keyValue, range, log, fails, aboveLast, fault, keyValueIn, permitted, entryOf, versionRight, newEntry, capacityOf, logOf, visibleIn, step10, judge}
 use Rattle.protocol.specs.Reply.{signedBy, closingWith, commandTree, limitsTree, bodyTree}
 use Rattle.protocol.specs.Answer.{refused}
 use Rattle.protocol.specs.Box as the
@@ -248,7 +247,7 @@ pub record JudgedCodes (s : State) (a : access.Acl) (c : Command) (v : List ℕ)
   -- step 10: "The operation."
   pub performed : (q : ℕ) (p : Passes s c q) (x : Choice) → askedBy (p .header .messageType) ≡ Request x
       → eqb (fault (x .operation) (c .body) v) 0 ≡ true → permitted a (s .connection .protected) (x .permission) (c .body) ≡ true
-      → judge s a c v ≡ step10 (accepted s q) (x .operation) (c .body) v
+      → judge s a c v ≡ step10 (accepted s q) a (x .operation) (c .body) v
 
 -- step 8, lengths and counts: a body with a keyValue, a range, a getLog, a security part
 abbrev pub entering : List ℕ → List ℕ → List ℕ → List ℕ → Body
@@ -395,34 +394,34 @@ pub record OperationTable : Type 0 where
 
 -- ---- "What each does"
 
-pub record OperationCodes (s : State) (b : Body) (v : List ℕ) : Type 0 where
+pub record OperationCodes (s : State) (a : access.Acl) (b : Body) (v : List ℕ) : Type 0 where
   -- "SUCCESS (1)"
-  pub noop : step10 s Noop b v .code ≡ 1
-  pub flushed : step10 s FlushAllData b v .code ≡ 1
-  pub listed : step10 s GetKeyRange b v .code ≡ 1
-  pub secured : step10 s Security b v .code ≡ 1
-  pub set-up : step10 s Setup b v .code ≡ 1
+  pub noop : step10 s a Noop b v .code ≡ 1
+  pub flushed : step10 s a FlushAllData b v .code ≡ 1
+  pub listed : step10 s a GetKeyRange b v .code ≡ 1
+  pub secured : step10 s a Security b v .code ≡ 1
+  pub set-up : step10 s a Setup b v .code ≡ 1
   -- "GET, GETVERSION: 7 if missing. GETNEXT, GETPREVIOUS: …; 7 if none."
-  pub get-missing : entryOf s (keyValueIn b .key) ≡ none → step10 s Get b v ≡ fails s 7
-  pub get-found : (e : Entry) → entryOf s (keyValueIn b .key) ≡ some e → step10 s Get b v .code ≡ 1
-  pub version-missing : entryOf s (keyValueIn b .key) ≡ none → step10 s GetVersion b v ≡ fails s 7
-  pub version-found : (e : Entry) → entryOf s (keyValueIn b .key) ≡ some e → step10 s GetVersion b v .code ≡ 1
-  pub next-none : nextIn (keyValueIn b .key) (entries s) ≡ Nothing → step10 s GetNext b v ≡ fails s 7
-  pub previous-none : previousIn (keyValueIn b .key) (entries s) ≡ Nothing → step10 s GetPrevious b v ≡ fails s 7
+  pub get-missing : entryOf s (keyValueIn b .key) ≡ none → step10 s a Get b v ≡ fails s 7
+  pub get-found : (e : Entry) → entryOf s (keyValueIn b .key) ≡ some e → step10 s a Get b v .code ≡ 1
+  pub version-missing : entryOf s (keyValueIn b .key) ≡ none → step10 s a GetVersion b v ≡ fails s 7
+  pub version-found : (e : Entry) → entryOf s (keyValueIn b .key) ≡ some e → step10 s a GetVersion b v .code ≡ 1
+  pub next-none : nextOf (keyValueIn b .key) (visibleIn s a 0) ≡ none → step10 s a GetNext b v ≡ fails s 7
+  pub previous-none : previousOf (keyValueIn b .key) (visibleIn s a 0) ≡ none → step10 s a GetPrevious b v ≡ fails s 7
   -- PUT: "else VERSION_MISMATCH (8). A new key that passes this, with no blank block: NO_SPACE (14), and only then."
-  pub put-mismatch : versionRight (keyValueIn b) (entryOf s (keyValueIn b .key)) ≡ false → step10 s Put b v ≡ fails s 8
+  pub put-mismatch : versionRight (keyValueIn b) (entryOf s (keyValueIn b .key)) ≡ false → step10 s a Put b v ≡ fails s 8
   pub put-no-space : versionRight (keyValueIn b) (entryOf s (keyValueIn b .key)) ≡ true → putAnswer (s .store) (newEntry (keyValueIn b) v) ≡ Full
-      → step10 s Put b v ≡ fails s 14
+      → step10 s a Put b v ≡ fails s 14
   pub put-stored : versionRight (keyValueIn b) (entryOf s (keyValueIn b .key)) ≡ true → putAnswer (s .store) (newEntry (keyValueIn b) v) ≡ Stored
-      → step10 s Put b v .code ≡ 1
+      → step10 s a Put b v .code ≡ 1
   -- DELETE: "missing key is NOT_FOUND (7), or SUCCESS with force; version as for PUT."
-  pub delete-missing : entryOf s (keyValueIn b .key) ≡ none → keyValueIn b .force ≡ false → step10 s Delete b v ≡ fails s 7
-  pub delete-forced : entryOf s (keyValueIn b .key) ≡ none → keyValueIn b .force ≡ true → step10 s Delete b v .code ≡ 1
-  pub delete-mismatch : (e : Entry) → entryOf s (keyValueIn b .key) ≡ some e → versionRight (keyValueIn b) (some e) ≡ false → step10 s Delete b v ≡ fails s 8
-  pub deleted : (e : Entry) → entryOf s (keyValueIn b .key) ≡ some e → versionRight (keyValueIn b) (some e) ≡ true → step10 s Delete b v .code ≡ 1
+  pub delete-missing : entryOf s (keyValueIn b .key) ≡ none → keyValueIn b .force ≡ false → step10 s a Delete b v ≡ fails s 7
+  pub delete-forced : entryOf s (keyValueIn b .key) ≡ none → keyValueIn b .force ≡ true → step10 s a Delete b v .code ≡ 1
+  pub delete-mismatch : (e : Entry) → entryOf s (keyValueIn b .key) ≡ some e → versionRight (keyValueIn b) (some e) ≡ false → step10 s a Delete b v ≡ fails s 8
+  pub deleted : (e : Entry) → entryOf s (keyValueIn b .key) ≡ some e → versionRight (keyValueIn b) (some e) ≡ true → step10 s a Delete b v .code ≡ 1
   -- document 02, CR 1: "else a 7 is NOT_FOUND at step 10"
-  pub log-device : (types : List ℕ) → among 7 types ≡ true → step10 s GetLog (logging types) v ≡ fails s 7
-  pub logged : (types : List ℕ) → among 7 types ≡ false → step10 s GetLog (logging types) v .code ≡ 1
+  pub log-device : (types : List ℕ) → among 7 types ≡ true → step10 s a GetLog (logging types) v ≡ fails s 7
+  pub logged : (types : List ℕ) → among 7 types ≡ false → step10 s a GetLog (logging types) v .code ≡ 1
 
 -- ---- "Replies": the bodies, as bytes; W1 and W2 have the rest
 
@@ -510,7 +509,7 @@ pub record Documented : Type 0 where
   pub steps-4-to-9 : (s : State) (a : access.Acl) (c : Command) (v : List ℕ) → JudgedCodes s a c v
   pub step-8 : Step8
   pub operation : OperationTable
-  pub step-10 : (s : State) (b : Body) (v : List ℕ) → OperationCodes s b v
+  pub step-10 : (s : State) (a : access.Acl) (b : Body) (v : List ℕ) → OperationCodes s a b v
   pub reply : ReplyNumbers
   pub log : LogNumbers
   pub rescues : (store report : List ℕ) → RescueNumbers store report

@@ -26,7 +26,7 @@ use Rattle.store_block.specs.Block.{decode, isEqual, fitTest}
 use Rattle.store_layout.specs.Store.{sizeGood, storeGood}
 use Rattle.access_record.specs.Table as access
 use Rattle.access_record.specs.Table.{named, maskOf, maskGood, offsetGood, scopeGood, aclGood, findFrom, aclsGood, tableGood}
-use Rattle.access_permission.specs.Permission.{fitsAt, fits, holds, grants, permits, permitsAny, permitsRange}
+use Rattle.access_permission.specs.Permission.{fitsAt, fits, holds, grants, permits, permitsAny}
 use Rattle.log_binary32.specs.Binary32.{fieldUnits, digitsIn, patternAt, rounded, lessThirtyTwo, minus32, times5, over9}
 use Rattle.log_binary32.specs.Celsius.{celsiusOf}
 use Rattle.log_readings.specs.Lent.{bitsAt, lentAt, placesFrom, allNamed, readingsGood}
@@ -179,7 +179,7 @@ fields = record {
 -- steps 7 to 10
 abbrev onwards : State → access.Acl → Command → List ℕ → ℕ → Asked → Result
 onwards s a c v q o =
-    step7 (accepted s q) o (λ x. step8 (accepted s q) (x .operation) (c .body) v (step9 (accepted s q) a (x .permission) (c .body) (step10 (accepted s q) (x .operation) (c .body) v)))
+    step7 (accepted s q) o (λ x. step8 (accepted s q) (x .operation) (c .body) v (step9 (accepted s q) a (x .permission) (c .body) (step10 (accepted s q) a (x .operation) (c .body) v)))
 
 passed : (s : State) (a : access.Acl) (c : Command) (v : List ℕ) (q : ℕ) (p : Passes s c q) → judge s a c v ≡ onwards s a c v q (askedBy (p .header .messageType))
 unfolding judge
@@ -271,7 +271,7 @@ chooses true h k = h
 chooses false h k = k
 
 operations : OperationTable
-unfolding asked askedIn rowOf without maskOf withBit bit permits permitsAny permitsRange any grants holds fits fitsAt
+unfolding asked askedIn rowOf without maskOf withBit bit permits permitsAny any grants holds fits fitsAt
 operations = record {
   asks = λ n.
       chooses (eqb n _) (by-row _ _ refl refl (λ p b. (refl, refl)))
@@ -296,8 +296,8 @@ set-up-code : (s : State) (o : Option ℕ) → setUp s o .code ≡ 1
 set-up-code s none = refl
 set-up-code s (some v) = refl
 
-performs : (s : State) (b : Body) (v : List ℕ) → OperationCodes s b v
-performs s b v = record {
+performs : (s : State) (a : access.Acl) (b : Body) (v : List ℕ) → OperationCodes s a b v
+performs s a b v = record {
   noop = refl;
   flushed = refl;
   listed = refl;

@@ -23,7 +23,7 @@ use Rattle.fields_lookup.specs.declared.parts.Part.{Part}
 use Rattle.fields_lookup.proofs.Slotted.{sub-view, nil-at, nil-reads}
 use Rattle.protocol.specs.Command as c
 use Rattle.protocol.specs.Command.{noBody, headerOf, keyValueOf, rangeOf, setupOf, typesOf, securityOf, bodyOf, commandOf}
-use Rattle.protocol.specs.Judge.{noKeyValue, noRange}
+use Rattle.protocol.specs.Judge.{noKeyValue}
 use Rattle.protocol.specs.Reading.{securityOnce, sentOnce, decodes}
 use Rattle.request_parts.specs.Views.{headerView, keyValueView, rangeView, HeaderIs, KeyValueIs, RangeIs}
 use Rattle.request_parts.specs.ViewLaws.{header-view, key-value-view, range-view}
@@ -81,8 +81,6 @@ module _ (s : List ℕ) (u : Tree) (b : Body) (h : BodyIs s u b) where
     security = h .lies;
     reads = h .reads;
     key = bytes-there keyValueOf noKeyValue (λ v. v .key) refl (subAt 1 u) (b .keyed) (keyValueView s (b .entry)) s (b .entry .key) (h .keyed) (key-value-view (h .entry)) (h .entry .lies .key) refl;
-    start = bytes-there rangeOf noRange (λ v. orElse [] (v .startKey)) refl (subAt 2 u) (b .ranged) (rangeView s (b .range)) s (b .range .start) (h .ranged) (range-view (h .range)) (h .range .lies .start) refl;
-    end = bytes-there rangeOf noRange (λ v. orElse [] (v .endKey)) refl (subAt 2 u) (b .ranged) (rangeView s (b .range)) s (b .range .end) (h .ranged) (range-view (h .range)) (h .range .lies .end) refl;
   }
 
 pub no-lies : (s : List ℕ) (b : Body) → BodyIs s done b → BodyLies s b

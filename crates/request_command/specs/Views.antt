@@ -1,7 +1,7 @@
 -- What the structs of a command mean over the bytes that they point into, by the names of document 01's list.
 -- "Absent bytes are empty, flags false, clusterVersion and offset 0."
 use mathlib.Core.Path.{_≡_}
-use mathlib.Core.List.{List, []}
+use mathlib.Core.List.{List}
 use mathlib.Core.Option.{Option}
 use mathlib.Core.Bool.{Bool, true, false, cond}
 use Prim.Native.Nat.{ℕ, _≤_}
@@ -12,9 +12,8 @@ use Rattle.fields_schema.specs.Tree.{guard, isSome, Tree, subAt, treeIn, subsAt
 use Rattle.fields_schema.specs.declared.Kind.the-variants.{Command, Security}
 use Rattle.fields_lookup.specs.Views.{signedView, bytesAt, Lies, Reads, Sub, treeOf}
 use Rattle.protocol.specs.Command as c
-use Rattle.base_definitions.specs.Options.{orElse}
 use Rattle.protocol.specs.Command.{securityOf}
-use Rattle.protocol.specs.Judge.{keyValueIn, rangeIn}
+use Rattle.protocol.specs.Judge.{keyValueIn}
 use Rattle.request_parts.specs.Views.{headerView, keyValueView, KeyValueLies, rangeView, RangeLies, KeyValueIs, RangeIs}
 use Rattle.request_merged.specs.Setups.{SetupIs}
 use Rattle.request_merged.specs.Types.{logTypes}
@@ -32,7 +31,7 @@ bodyView s b =
       security = guard (b .security .has) (securityOf (treeOf Security (bytesAt s (b .security))));
     }
 
--- the keys of a keyValue or range that is not there are empty
+-- the key of a keyValue that is not there is empty
 pub record BodyLies (s : List ℕ) (b : Body) : Type 0 where
   pub entry : KeyValueLies s (b .entry)
   pub range : RangeLies s (b .range)
@@ -40,8 +39,6 @@ pub record BodyLies (s : List ℕ) (b : Body) : Type 0 where
   pub security : Lies s (b .security)
   pub reads : Reads Security (bytesAt s (b .security))
   pub key : keyValueIn (bodyView s b) .key ≡ bytesAt s (b .entry .key)
-  pub start : orElse [] (rangeIn (bodyView s b) .startKey) ≡ bytesAt s (b .range .start)
-  pub end : orElse [] (rangeIn (bodyView s b) .endKey) ≡ bytesAt s (b .range .end)
 
 -- what was read of the bodies that t joins; the security part counts where there is at most one
 pub record BodyIs (s : List ℕ) (t : Tree) (b : Body) : Type 0 where

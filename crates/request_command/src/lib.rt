@@ -1,6 +1,4 @@
 // A command by value: what its fields say, and where its parts lie.
-pub mod numbers;
-
 ghost use mathlib.Core.Path.{_≡_};
 ghost use mathlib.Core.List.{List};
 ghost use mathlib.Core.Bool.{true, false, cond};

@@ -1,5 +1,4 @@
 -- The definitions that the contracts of `signature_hmac` cite, and what follows of them.
 pub mod Hmac
 pub mod HmacLaws
-pub mod Agree
-pub mod AgreeLaws
+pub mod KeyBlockLaws

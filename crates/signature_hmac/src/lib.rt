@@ -2,8 +2,8 @@
 ghost use mathlib.Core.Path.{_≡_};
 ghost use Prim.Native.Nat.{_≤_};
 ghost use lib.ListN.{length};
-ghost use Rattle.base_definitions.specs.Lists.{sameBytes};
 ghost use Rattle.signature_hmac.specs.Hmac.{masked, keyedWords, hmacAnswer, macAnswer, verified};
+use base_bytes::same;
 use signature_sha1::bytes;
 use signature_sha1::hash;
 use signature_sha1::hash_after;
@@ -58,31 +58,14 @@ pub fn hmac(key: &[u8], text: &[u8]) -> Mac
     Mac::Made(keyed(&d, text))
 }
 
-// Whether sent is the digest; all twenty bytes are looked at, whatever they are.
-fn same_digest(digest: &[u8; 20], sent: &[u8]) -> bool
-    requires { ⌜ length (now digest) ≡ 20 ⌝ }
-    ensures { λ r. ⌜ r ≡ sameBytes (now (digest .entry)) (now (sent .entry)) ⌝ }
-{
-    if sent.len() != 20 {
-        return false;
-    }
-    let mut differences = 0u8;
-    let mut i = 0;
-    while i < 20 {
-        differences |= digest[i] ^ sent[i];
-        i += 1;
-    }
-    differences == 0
-}
-
-// Whether sent is exactly the twenty bytes of the hmac of a text under a key; no where there is none.
+// Whether sent is exactly the twenty bytes of the hmac of a text under a key, all of which are looked at; no where there is none.
 pub fn verify(key: &[u8], text: &[u8], sent: &[u8]) -> bool
     ensures { λ r. ⌜ r ≡ verified (now (key .entry)) (now (text .entry)) (now (sent .entry)) ⌝ }
 {
     match hmac(key, text) {
         Mac::Made(s) => {
             let d = bytes(s);
-            same_digest(&d, sent)
+            same(&d, sent)
         }
         Mac::KeyTooLong => false,
         Mac::TextTooLong => false,

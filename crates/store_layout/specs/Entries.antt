@@ -2,18 +2,18 @@
 use mathlib.Core.Path.{_≡_}
 use mathlib.Core.Bool.{Bool, true, cond}
 use mathlib.Core.List.{List, [], _∷_}
+use mathlib.Core.Option.{Option}
 use Prim.Native.Nat.{ℕ, _+_, _≤_}
 use lib.Dec.{ltb}
 use lib.ListN.{length, take, drop, getD}
+use Rattle.base_definitions.specs.Lists.{only, first, last}
 use Rattle.store_block.specs.declared.Order.{Order}
 use Rattle.store_block.specs.declared.Order.the-variants.{Less, Equal, Greater}
 use Rattle.store_block.specs.Order.{cmp}
 use Rattle.store_block.specs.Entry.{Entry, entry, noEntry}
-use Rattle.store_block.specs.Block.{fitTest}
+use Rattle.store_block.specs.Block.{fitTest, isLess}
 use Rattle.store_layout.specs.declared.KeyPlace.{KeyPlace}
 use Rattle.store_layout.specs.declared.KeyPlace.the-variants.{At, Gap}
-use Rattle.store_layout.specs.declared.EntryPlace.{EntryPlace}
-use Rattle.store_layout.specs.declared.EntryPlace.the-variants.{There, Nothing}
 use Rattle.store_layout.specs.declared.PutAnswer.{PutAnswer}
 use Rattle.store_layout.specs.declared.PutAnswer.the-variants.{Stored, Full, Unfit}
 use Rattle.store_layout.specs.declared.DeleteAnswer.{DeleteAnswer}
@@ -59,21 +59,13 @@ unfoldable pub upTo : List ℕ → List Entry → ℕ
 upTo k [] = 0
 upTo k (e ∷ es) = byOrder (cmp (e .key) k) (1 + upTo k es) (1 + upTo k es) (upTo k es)
 
--- "nearest stored key strictly above": the place of the first that is above k, when the first entry has place i
-unfoldable pub nextFrom : ℕ → List ℕ → List Entry → EntryPlace
-nextFrom i k [] = Nothing
-nextFrom i k (e ∷ es) = byOrder (cmp k (e .key)) (There i) (nextFrom (i + 1) k es) (nextFrom (i + 1) k es)
+-- "nearest stored key strictly above": of entries in the order of their keys, the first whose key is above k
+unfoldable pub nextOf : List ℕ → List Entry → Option Entry
+nextOf k es = first (only (λ e. isLess (cmp k (e .key))) es)
 
-unfoldable pub nextIn : List ℕ → List Entry → EntryPlace
-nextIn k es = nextFrom 0 k es
-
--- "or below": the place of the last that is below k; p is the last one seen so far
-unfoldable pub previousFrom : EntryPlace → ℕ → List ℕ → List Entry → EntryPlace
-previousFrom p i k [] = p
-previousFrom p i k (e ∷ es) = byOrder (cmp k (e .key)) (previousFrom p (i + 1) k es) (previousFrom p (i + 1) k es) (previousFrom (There i) (i + 1) k es)
-
-unfoldable pub previousIn : List ℕ → List Entry → EntryPlace
-previousIn k es = previousFrom Nothing 0 k es
+-- "or below": the last whose key is below k
+unfoldable pub previousOf : List ℕ → List Entry → Option Entry
+previousOf k es = last (only (λ e. isLess (cmp (e .key) k)) es)
 
 -- a part's bytes in the store, and the entry that parts show
 abbrev pub partOf : List ℕ → EntryPart → List ℕ

@@ -11,10 +11,8 @@ use Rattle.store_block.specs.OrderLaws.{cmp-equal, cmp-flip, below-trans}
 use Rattle.store_block.specs.Flip.{flip}
 use Rattle.store_block.specs.Entry.{Entry, Fit}
 use Rattle.store_layout.specs.declared.KeyPlace.the-variants.{At, Gap}
-use Rattle.store_layout.specs.declared.EntryPlace.{EntryPlace}
-use Rattle.store_layout.specs.declared.EntryPlace.the-variants.{There, Nothing}
 use Rattle.store_layout.specs.Store.{AllFit, none, more, Above, Sorted}
-use Rattle.store_layout.specs.Entries.{byOrder, findFrom, placeOf, pastOf, below, upTo, nextFrom, previousFrom, putEntry, removeEntry}
+use Rattle.store_layout.specs.Entries.{byOrder, findFrom, placeOf, pastOf, below, upTo, putEntry, removeEntry}
 use Rattle.store_layout.specs.Places.{InGap, IsAt}
 
 pub by-less {ℓ} : {X : Type ℓ} (o : Order) (a b c d : X) → o ≡ Less → byOrder o a b c ≡ d → a ≡ d
@@ -29,13 +27,13 @@ pub by-greater {ℓ} : {X : Type ℓ} (o : Order) (a b c d : X) → o ≡ Greate
 unfolding byOrder
 by-greater o a b c d e h = sym (ap (λ (o : Order). byOrder o a b c) e) ∙ h
 
-is-less {ℓ} : {X : Type ℓ} (o : Order) (a b c : X) → o ≡ Less → byOrder o a b c ≡ a
+pub is-less {ℓ} : {X : Type ℓ} (o : Order) (a b c : X) → o ≡ Less → byOrder o a b c ≡ a
 is-less o a b c e = sym (by-less o a b c (byOrder o a b c) e refl)
 
-is-equal {ℓ} : {X : Type ℓ} (o : Order) (a b c : X) → o ≡ Equal → byOrder o a b c ≡ b
+pub is-equal {ℓ} : {X : Type ℓ} (o : Order) (a b c : X) → o ≡ Equal → byOrder o a b c ≡ b
 is-equal o a b c e = sym (by-equal o a b c (byOrder o a b c) e refl)
 
-is-greater {ℓ} : {X : Type ℓ} (o : Order) (a b c : X) → o ≡ Greater → byOrder o a b c ≡ c
+pub is-greater {ℓ} : {X : Type ℓ} (o : Order) (a b c : X) → o ≡ Greater → byOrder o a b c ≡ c
 is-greater o a b c e = sym (by-greater o a b c (byOrder o a b c) e refl)
 
 never : {X : Type 0} (i j : ℕ) → Gap i ≡ At j → X
@@ -48,7 +46,7 @@ at-inj : (i j : ℕ) → At i ≡ At j → i ≡ j
 at-inj i j e = cc
 
 -- by the three ways that two keys stand
-by-order {ℓ} : {X : Type ℓ} (k l : List ℕ) → (cmp k l ≡ Less → X) → (cmp k l ≡ Equal → X) → (cmp k l ≡ Greater → X) → X
+pub by-order {ℓ} : {X : Type ℓ} (k l : List ℕ) → (cmp k l ≡ Less → X) → (cmp k l ≡ Equal → X) → (cmp k l ≡ Greater → X) → X
 by-order {X = X} k l f g h = go (cmp k l) refl
   where
     go : (o : Order) → cmp k l ≡ o → X
@@ -182,7 +180,7 @@ remove-short k (x ∷ xs) =
     (λ q. subst (λ (l : List Entry). length l ≤ length (x ∷ xs)) (sym (is-equal _ (x ∷ xs) xs (x ∷ removeEntry k xs) q)) (omega arith))
     (λ q. subst (λ (l : List Entry). length l ≤ length (x ∷ xs)) (sym (is-greater _ (x ∷ xs) xs (x ∷ removeEntry k xs) q)) (omega arith))
 
--- ---- the place of a key tells how many keys are below it, and its neighbours
+-- ---- the place of a key tells how many keys are below it
 
 -- no key is below, or equal to, one that is below the first
 pub none-below : (k : List ℕ) (es : List Entry) → Above k es → Sorted es → below k es ≡ 0
@@ -196,7 +194,7 @@ none-upTo k [] a s = refl
 none-upTo k (x ∷ xs) a s = is-greater _ _ _ _ (turned k (x .key) Less a) ∙ none-upTo k xs (above-next k x xs a (s .0)) (s .1)
 
 -- the entries after one whose key is k
-after : (k : List ℕ) (x : Entry) (xs : List Entry) → cmp k (x .key) ≡ Equal → Above (x .key) xs → Above k xs
+pub after : (k : List ℕ) (x : Entry) (xs : List Entry) → cmp k (x .key) ≡ Equal → Above (x .key) xs → Above k xs
 after k x xs q a = subst (λ (l : List ℕ). Above l xs) (sym (cmp-equal k (x .key) q)) a
 
 pub find-below : (j : ℕ) (k : List ℕ) (es : List Entry) → Sorted es → placeOf (findFrom j k es) ≡ j + below k es
@@ -246,80 +244,3 @@ upTo-most k (x ∷ xs) =
     by-order (x .key) k (λ q. let m = is-less _ (1 + upTo k xs) (1 + upTo k xs) (upTo k xs) q in omega arith)
     (λ q. let m = is-equal _ (1 + upTo k xs) (1 + upTo k xs) (upTo k xs) q in omega arith)
     (λ q. let m = is-greater _ (1 + upTo k xs) (1 + upTo k xs) (upTo k xs) q in omega arith)
-
-pub next-there : (j : ℕ) (k : List ℕ) (es : List Entry) → Sorted es → upTo k es < length es → nextFrom j k es ≡ There (j + upTo k es)
-unfolding nextFrom upTo
-next-there j k [] s h = absurd (omega arith)
-next-there j k (x ∷ xs) s h = go (λ p. next-there (j + 1) k xs (s .1) p)
-  where
-    go : (upTo k xs < length xs → nextFrom (j + 1) k xs ≡ There (j + 1 + upTo k xs)) → nextFrom j k (x ∷ xs) ≡ There (j + upTo k (x ∷ xs))
-    go ih =
-        by-order k (x .key)
-        (λ q. let n = none-upTo k (x ∷ xs) q s in is-less _ _ _ _ q ∙ ap There (let z : j ≡ j + upTo k (x ∷ xs) = omega arith in z))
-        (λ q.
-        let m : upTo k (x ∷ xs) ≡ 1 + upTo k xs = is-equal _ _ _ _ (turned k (x .key) Equal q) in
-        is-equal _ _ _ _ q ∙ ih (omega arith) ∙ ap There (let z : j + 1 + upTo k xs ≡ j + upTo k (x ∷ xs) = omega arith in z))
-        (λ q.
-        let m : upTo k (x ∷ xs) ≡ 1 + upTo k xs = is-less _ _ _ _ (turned k (x .key) Greater q) in
-        is-greater _ _ _ _ q ∙ ih (omega arith) ∙ ap There (let z : j + 1 + upTo k xs ≡ j + upTo k (x ∷ xs) = omega arith in z))
-
-pub next-none : (j : ℕ) (k : List ℕ) (es : List Entry) → Sorted es → length es ≤ upTo k es → nextFrom j k es ≡ Nothing
-unfolding nextFrom upTo
-next-none j k [] s h = refl
-next-none j k (x ∷ xs) s h = go (λ p. next-none (j + 1) k xs (s .1) p)
-  where
-    go : (length xs ≤ upTo k xs → nextFrom (j + 1) k xs ≡ Nothing) → nextFrom j k (x ∷ xs) ≡ Nothing
-    go ih =
-        by-order k (x .key)
-        (λ q. let n = none-upTo k (x ∷ xs) q s in absurd (omega arith))
-        (λ q.
-        let m : upTo k (x ∷ xs) ≡ 1 + upTo k xs = is-equal _ _ _ _ (turned k (x .key) Equal q) in
-        is-equal _ _ _ _ q ∙ ih (omega arith))
-        (λ q.
-        let m : upTo k (x ∷ xs) ≡ 1 + upTo k xs = is-less _ _ _ _ (turned k (x .key) Greater q) in
-        is-greater _ _ _ _ q ∙ ih (omega arith))
-
-pub previous-none : (p : EntryPlace) (j : ℕ) (k : List ℕ) (es : List Entry) → below k es ≡ 0 → previousFrom p j k es ≡ p
-unfolding previousFrom below
-previous-none p j k [] h = refl
-previous-none p j k (x ∷ xs) h = go (λ q. previous-none p (j + 1) k xs q)
-  where
-    go : (below k xs ≡ 0 → previousFrom p (j + 1) k xs ≡ p) → previousFrom p j k (x ∷ xs) ≡ p
-    go ih =
-        by-order k (x .key)
-        (λ q.
-        let m : below k (x ∷ xs) ≡ below k xs = is-greater _ _ _ _ (turned k (x .key) Less q) in
-        is-less _ _ _ _ q ∙ ih (omega arith))
-        (λ q.
-        let m : below k (x ∷ xs) ≡ below k xs = is-equal _ _ _ _ (turned k (x .key) Equal q) in
-        is-equal _ _ _ _ q ∙ ih (omega arith))
-        (λ q.
-        let m : below k (x ∷ xs) ≡ 1 + below k xs = is-less _ _ _ _ (turned k (x .key) Greater q) in
-        absurd (omega arith))
-
-pub previous-there : (p : EntryPlace) (j c : ℕ) (k : List ℕ) (es : List Entry) → Sorted es → below k es ≡ suc c → previousFrom p j k es ≡ There (j + c)
-unfolding previousFrom below
-previous-there p j c k [] s h = absurd (omega arith)
-previous-there p j zero k (x ∷ xs) s h =
-    by-order k (x .key)
-    (λ q. let n = none-below k (x ∷ xs) q s in absurd (omega arith))
-    (λ q.
-    let n = none-below k xs (after k x xs q (s .0)) (s .1) in
-    let m : below k (x ∷ xs) ≡ below k xs = is-equal _ _ _ _ (turned k (x .key) Equal q) in
-    absurd (omega arith))
-    (λ q.
-    let m : below k (x ∷ xs) ≡ 1 + below k xs = is-less _ _ _ _ (turned k (x .key) Greater q) in
-    is-greater _ _ _ _ q ∙ previous-none (There j) (j + 1) k xs (omega arith) ∙ ap There (let z : j ≡ j + 0 = omega arith in z))
-previous-there p j (suc c) k (x ∷ xs) s h = go (λ a. previous-there (There j) (j + 1) c k xs (s .1) a)
-  where
-    go : (below k xs ≡ suc c → previousFrom (There j) (j + 1) k xs ≡ There (j + 1 + c)) → previousFrom p j k (x ∷ xs) ≡ There (j + suc c)
-    go ih =
-        by-order k (x .key)
-        (λ q. let n = none-below k (x ∷ xs) q s in absurd (omega arith))
-        (λ q.
-        let n = none-below k xs (after k x xs q (s .0)) (s .1) in
-        let m : below k (x ∷ xs) ≡ below k xs = is-equal _ _ _ _ (turned k (x .key) Equal q) in
-        absurd (omega arith))
-        (λ q.
-        let m : below k (x ∷ xs) ≡ 1 + below k xs = is-less _ _ _ _ (turned k (x .key) Greater q) in
-        is-greater _ _ _ _ q ∙ ih (omega arith) ∙ ap There (let z : j + 1 + c ≡ j + suc c = omega arith in z))

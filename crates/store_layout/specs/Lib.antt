@@ -8,6 +8,9 @@ pub mod Places
 pub mod EntriesLaws
 pub mod Lookup
 pub mod LookupLaws
+pub mod FilteredLaws
+pub mod Neighbours
+pub mod NeighbourLaws
 pub mod WalkLaws
 pub mod Check
 pub mod CheckLaws

@@ -5,8 +5,7 @@ use mathlib.Core.Option.{Option, none, some}
 use Prim.Native.Nat.{ℕ, zero, suc, _+_, _<_}
 use native.Mathlib.Omega.{arith}
 use lib.ListN.{length, getD}
-use Rattle.store_block.specs.declared.Order.{Order}
-use Rattle.store_block.specs.declared.Order.the-variants.{Less, Equal, Greater}
+use Rattle.store_block.specs.declared.Order.the-variants.{Less, Greater}
 use Rattle.store_block.specs.Order.{cmp}
 use Rattle.store_block.specs.OrderLaws.{cmp-refl, cmp-equal, cmp-flip, below-trans}
 use Rattle.store_block.specs.Flip.{flip}
@@ -14,33 +13,13 @@ use Rattle.store_block.specs.Entry.{Entry, noEntry}
 use Rattle.store_layout.specs.declared.KeyPlace.the-variants.{At, Gap}
 use Rattle.store_layout.specs.Store.{Above, Sorted}
 use Rattle.store_layout.specs.Entries.{byOrder, findFrom, findIn, putEntry, removeEntry}
-use Rattle.store_layout.specs.EntriesLaws.{above-next}
+use Rattle.store_layout.specs.EntriesLaws.{is-less, is-equal, is-greater, by-order, above-next}
 use Rattle.store_layout.specs.Lookup.{under}
-
-is-less {ℓ} : {X : Type ℓ} (o : Order) (a b c : X) → o ≡ Less → byOrder o a b c ≡ a
-unfolding byOrder
-is-less o a b c e = ap (λ (o : Order). byOrder o a b c) e
-
-is-equal {ℓ} : {X : Type ℓ} (o : Order) (a b c : X) → o ≡ Equal → byOrder o a b c ≡ b
-unfolding byOrder
-is-equal o a b c e = ap (λ (o : Order). byOrder o a b c) e
-
-is-greater {ℓ} : {X : Type ℓ} (o : Order) (a b c : X) → o ≡ Greater → byOrder o a b c ≡ c
-unfolding byOrder
-is-greater o a b c e = ap (λ (o : Order). byOrder o a b c) e
-
-by-order {ℓ} : {X : Type ℓ} (k l : List ℕ) → (cmp k l ≡ Less → X) → (cmp k l ≡ Equal → X) → (cmp k l ≡ Greater → X) → X
-by-order {X = X} k l f g h = go (cmp k l) refl
-  where
-    go : (o : Order) → cmp k l ≡ o → X
-    go Less e = f e
-    go Equal e = g e
-    go Greater e = h e
 
 never : {X : Type 0} → _≡_ {A = ℕ} 0 1 → X
 never z = absurd (omega arith)
 
-above-none : (k : List ℕ) (es : List Entry) → Above k es → under k es ≡ none
+pub above-none : (k : List ℕ) (es : List Entry) → Above k es → under k es ≡ none
 unfolding under
 above-none k [] a = refl
 above-none k (x ∷ xs) a = is-less _ _ _ _ a

@@ -10,12 +10,6 @@ pub enum KeyPlace {
     Gap(usize),
 }
 
-// Where an entry stands, if there is one.
-pub enum EntryPlace {
-    There(usize),
-    Nothing,
-}
-
 // Where a part of an entry lies in the store.
 pub struct EntryPart {
     pub start: usize,

@@ -1,76 +1,91 @@
 use Prim.Native.Nat.{_+_, _≤_}
-use mathlib.Core.Path.{_≡_, _∙_, sym}
-use native.Mathlib.Omega.{arith}
-use borrow.Author.Tests.{eq-eqb, ne-eqb}
-use Rattle.access_record.specs.Record.{bytesAt}
-use Rattle.access_record.specs.TableLaws.{stops, goes}
-use Rattle.access_permission.specs.Permission.{fitsAt}
-use Rattle.access_scope.specs.Runs.{runs}
-use Rattle.access_scope.specs.ScopeLaws.{fits-runs, runs-turn, runs-short, runs-end}
+use mathlib.Core.Path.{_∙_}
+use lib.ListN.{length}
+use denote.Ref.{now}
+use Rattle.access_scope.specs.ScopeLaws.{fits-empty, fits-short, fits-last, fits-whole}
 use borrow.Author.Needs.{needs}
 use Rattle.access_scope.proofs.fits_at.Statement.{statement}
 use Rattle.access_scope.proofs.fits_at.Tie as tie
 
-abbrev Inv-loop : tie.InvT-loop
-Inv-loop l a n key o at₀ left₀ p₀ at left p = (at + left ≤ 2960) × (p + left ≤ 64 + n) × (runs l at left key p ≡ fitsAt (bytesAt l a n) o key)
+returns : tie.Need-returns
+returns c = let a = c .before .before .args in fits-empty (now (a .device)) (a .a) (a .n) (a .offset) (now (a .key)) (c .if1 .taken)
 
-abbrev μ-loop : tie.MeasureT-loop
-μ-loop l a n key o at₀ left₀ p₀ at left p = left
+add-end : tie.Need-add-end
+add-end c = search needs
 
-loop-holds : tie.Need-loop-holds Inv-loop μ-loop
-loop-holds c = (search needs, search needs, fits-runs _ _ _ _ _)
-
-returns : tie.Need-returns Inv-loop μ-loop
-returns c = sym (runs-short _ _ _ _ _ (c .before .loop-test .taken) (c .if1 .taken)) ∙ c .before .before .loop .inv .2
-
-element-copy-out-if2 : tie.Need-element-copy-out-if2 Inv-loop μ-loop
-element-copy-out-if2 c = search needs
-
-shared-slice-read-if2 : tie.Need-shared-slice-read-if2 Inv-loop μ-loop
-shared-slice-read-if2 c = search needs
-
-returns-2 : tie.Need-returns-2 Inv-loop μ-loop
+returns-2 : tie.Need-returns-2
 returns-2 c =
-    stops _ (runs-turn _ _ _ _ _ (c .before .before .before .before .loop-test .taken) (c .before .before .before .if1 .left)) (c .before .before .before .before .before .loop .inv .2)
-    (ne-eqb _ _ (c .if2 .taken))
+    let a = c .before .before .before .args in
+    fits-short (now (a .device)) (a .a) (a .n) (a .offset) (now (a .key)) (c .before .if1 .left) (c .if2 .taken)
 
-add-at : tie.Need-add-at Inv-loop μ-loop
-add-at c = search needs
+add-stop : tie.Need-add-stop
+add-stop c = search needs
 
-sub-left : tie.Need-sub-left Inv-loop μ-loop
-sub-left c = search needs
+sub-if3 : tie.Need-sub-if3
+sub-if3 c = search needs
 
-add-p : tie.Need-add-p Inv-loop μ-loop
-add-p c = search needs
+shared-slice-read-if3 : tie.Need-shared-slice-read-if3
+shared-slice-read-if3 c = search needs
 
-loop-less : tie.Need-loop-less Inv-loop μ-loop
-loop-less c = search needs
+sub-if3-2 : tie.Need-sub-if3-2
+sub-if3-2 c = search needs
 
-loop-again : tie.Need-loop-again Inv-loop μ-loop
-loop-again c = (
-  omega arith,
-  omega arith,
-  goes (runs-turn _ _ _ _ _ (c .before .before .before .before .loop-test .taken) (c .before .before .before .if1 .left)) (c .before .before .before .before .before .loop .inv .2)
-      (eq-eqb _ _ (c .if2 .left)),
-)
+shared-slice-read-if3-2 : tie.Need-shared-slice-read-if3-2
+shared-slice-read-if3-2 c = search needs
 
-returns-3 : tie.Need-returns-3 Inv-loop μ-loop
-returns-3 c = sym (runs-end _ _ _ (c .before .before .args .key .now) (c .before .loop .p) (c .loop-test .left)) ∙ c .before .loop .inv .2
+returns-3 : tie.Need-returns-3
+returns-3 c =
+    let e = c .before .before .before .before .before in
+    let a = e .before .before .args in
+    let h : a .a + a .n ≤ length (now (a .device)) = search needs in
+    fits-last (now (a .device)) (a .a) (a .n) (a .offset) (now (a .key)) (e .if1 .left) h (c .if3 .taken)
+
+sub-same : tie.Need-sub-same
+sub-same c = search needs
+
+part-same-start : tie.Need-part-same-start
+part-same-start c = search needs
+
+part-same-end : tie.Need-part-same-end
+part-same-end c = search needs
+
+sub-same-2 : tie.Need-sub-same-2
+sub-same-2 c = search needs
+
+part-same-start-2 : tie.Need-part-same-start-2
+part-same-start-2 c = search needs
+
+part-same-end-2 : tie.Need-part-same-end-2
+part-same-end-2 c = search needs
+
+same-requires : tie.Need-same-requires
+same-requires c κs = search needs
+
+returns-4 : tie.Need-returns-4
+returns-4 c =
+    let e = c .before .before .before .before .before .before .before .before in
+    let a = e .before .before .args in
+    let h : a .a + a .n ≤ length (now (a .device)) = search needs in
+    c .same .ensures ∙ fits-whole (now (a .device)) (a .a) (a .n) (a .offset) (now (a .key)) (e .if1 .left) h
 
 pub fits-at-spec : {M : Type 1} → statement M
 fits-at-spec =
     tie.close
     (tie.spec
-    Inv-loop
-    μ-loop
-    loop-holds
     returns
-    element-copy-out-if2
-    shared-slice-read-if2
+    add-end
     returns-2
-    add-at
-    sub-left
-    add-p
-    loop-less
-    loop-again
-    returns-3)
+    add-stop
+    sub-if3
+    shared-slice-read-if3
+    sub-if3-2
+    shared-slice-read-if3-2
+    returns-3
+    sub-same
+    part-same-start
+    part-same-end
+    sub-same-2
+    part-same-start-2
+    part-same-end-2
+    same-requires
+    returns-4)

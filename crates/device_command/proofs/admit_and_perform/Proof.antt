@@ -20,7 +20,7 @@ abbrev choice : tie.After-asked → Choice
 choice m = m .asked .given .0 .0
 
 abbrev acl : tie.Start → Acl
-acl z = aclOf (tableOf (now (z .args .device))) (z .args .accepted .sender .acl)
+acl z = aclOf (tableOf (now (z .args .device))) (z .args .accepted .acl)
 
 abbrev body : tie.Start → Body
 body z = bodyView (now (z .args .command)) (z .args .accepted .body)
@@ -50,7 +50,7 @@ returns c =
     λ k t e f. let s = state z k in
     built s (acl z) (body z) v (a .«reply_to») (now (z .args .signing-key)) _ _ _ (a .asked) t f (choice m) (m .asked .given .1) _
     (not-admitted s (acl z) (choice m) (body z) v (a .«reply_to») (now (z .args .signing-key)) _ _ _
-    (a .sender .connection .protected) e (x .admit .result) (x .admit .ensures v refl) (c .before .before .before .before .if1 .taken) (c .before .before .status .ensures s))
+    (a .protected) e (x .admit .result) (x .admit .ensures v refl) (c .before .before .before .before .if1 .taken) (c .before .before .status .ensures s))
 
 perform-requires : tie.Need-perform-requires
 perform-requires c κs =
@@ -59,7 +59,7 @@ perform-requires c κs =
     let m = x .before .before .before in
     let z = Z m in
     let v = now (z .args .value) in
-    (z .pre .0, z .pre .1, z .pre .2, z .pre .4, admitted (acl z) (z .args .accepted .sender .connection .protected) (choice m) (body z) v (x .admit .ensures v refl) (i .if1 .left), z .pre .5)
+    (z .pre .0, z .pre .1, z .pre .2, z .pre .4, admitted (acl z) (z .args .accepted .protected) (choice m) (body z) v (x .admit .ensures v refl) (i .if1 .left), z .pre .5, z .pre .3)
 
 enum-told : tie.Need-enum-told
 enum-told c = search needs
@@ -85,7 +85,7 @@ returns-2 c =
     λ k t e f. let s = state z k in
     built s (acl z) (body z) v (a .«reply_to») (now (z .args .signing-key)) _ _ _ (a .asked) t f (choice m) (m .asked .given .1) _
     (done s (acl z) (choice m) (body z) v (a .«reply_to») (now (z .args .signing-key)) _ _ _
-    (a .sender .connection .protected) e (x .admit .result) (x .admit .ensures v refl) (i .if1 .left) _ (p .perform .ensures k))
+    (a .protected) e (x .admit .result) (x .admit .ensures v refl) (i .if1 .left) _ (p .perform .ensures k e))
 
 same-length-4 : tie.Need-same-length-4
 same-length-4 c = search needs

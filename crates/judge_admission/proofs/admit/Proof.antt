@@ -4,7 +4,7 @@ use Rattle.access_record.specs.Record.{tableOf}
 use Rattle.protocol.specs.Command.{Body}
 use Rattle.request_command.specs.Views.{bodyView}
 use Rattle.judge_admission.specs.AdmissionLaws.{faulty, forbidden, allowed}
-use Rattle.judge_admission.proofs.Keys.{end-fits, keys-cut}
+use Rattle.judge_admission.proofs.Keys.{end-fits, key-cut}
 use borrow.Author.Needs.{needs}
 use Rattle.judge_admission.proofs.admit.Statement.{statement}
 use Rattle.judge_admission.proofs.admit.Tie as tie
@@ -36,48 +36,24 @@ part-permitted-start c = search needs
 part-permitted-end : tie.Need-part-permitted-end
 part-permitted-end c = c .before .before .before .before .pre .1 .entry .key .inside
 
-add-permitted-2 : tie.Need-add-permitted-2
-add-permitted-2 c = let z = c .before .before .before .before .before .before in end-fits (now (z .args .command)) (z .args .body .range .start) (z .good .1 .1 .1 .1 .0 .0) (z .pre .1 .range .start .inside)
-
-sub-permitted-2 : tie.Need-sub-permitted-2
-sub-permitted-2 c = search needs
-
-part-permitted-start-2 : tie.Need-part-permitted-start-2
-part-permitted-start-2 c = search needs
-
-part-permitted-end-2 : tie.Need-part-permitted-end-2
-part-permitted-end-2 c = c .before .before .before .before .before .before .pre .1 .range .start .inside
-
-add-permitted-3 : tie.Need-add-permitted-3
-add-permitted-3 c = let z = c .before .before .before .before .before .before .before .before in end-fits (now (z .args .command)) (z .args .body .range .end) (z .good .1 .1 .1 .1 .0 .0) (z .pre .1 .range .end .inside)
-
-sub-permitted-3 : tie.Need-sub-permitted-3
-sub-permitted-3 c = search needs
-
-part-permitted-start-3 : tie.Need-part-permitted-start-3
-part-permitted-start-3 c = search needs
-
-part-permitted-end-3 : tie.Need-part-permitted-end-3
-part-permitted-end-3 c = c .before .before .before .before .before .before .before .before .pre .1 .range .end .inside
-
 permitted-requires : tie.Need-permitted-requires
-permitted-requires c κs = let z = c .before .before .before .before .before .before .before .before .before in (z .pre .0, z .pre .2)
+permitted-requires c κs = let z = c .before .before .before .before .before in (z .pre .0, z .pre .2)
 
 returns-2 : tie.Need-returns-2
 returns-2 c =
     let y = c .before in
-    let w = y .before .before .before .before .before .before .before in
+    let w = y .before .before .before in
     let x = w .before in
     let z = x .before .before in
-    λ v e. forbidden (acl z) (z .args .protected) (z .args .choice) (body z) v (x .body-fault .ensures v e) (w .if1 .left) (y .permitted .ensures (body z) (keys-cut (now (z .args .command)) (z .args .body) (z .pre .1))) (c .if2 .taken)
+    λ v e. forbidden (acl z) (z .args .protected) (z .args .choice) (body z) v (x .body-fault .ensures v e) (w .if1 .left) (y .permitted .ensures (body z) (key-cut (now (z .args .command)) (z .args .body) (z .pre .1))) (c .if2 .taken)
 
 returns-3 : tie.Need-returns-3
 returns-3 c =
     let y = c .before in
-    let w = y .before .before .before .before .before .before .before in
+    let w = y .before .before .before in
     let x = w .before in
     let z = x .before .before in
-    λ v e. allowed (acl z) (z .args .protected) (z .args .choice) (body z) v (x .body-fault .ensures v e) (w .if1 .left) (y .permitted .ensures (body z) (keys-cut (now (z .args .command)) (z .args .body) (z .pre .1))) (c .if2 .left)
+    λ v e. allowed (acl z) (z .args .protected) (z .args .choice) (body z) v (x .body-fault .ensures v e) (w .if1 .left) (y .permitted .ensures (body z) (key-cut (now (z .args .command)) (z .args .body) (z .pre .1))) (c .if2 .left)
 
 pub admit-spec : {M : Type 1} → statement M
 admit-spec =
@@ -89,14 +65,6 @@ admit-spec =
     sub-permitted
     part-permitted-start
     part-permitted-end
-    add-permitted-2
-    sub-permitted-2
-    part-permitted-start-2
-    part-permitted-end-2
-    add-permitted-3
-    sub-permitted-3
-    part-permitted-start-3
-    part-permitted-end-3
     permitted-requires
     returns-2
     returns-3)

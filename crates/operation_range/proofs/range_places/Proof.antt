@@ -1,9 +1,15 @@
-use mathlib.Core.Bool.{cond}
-use Prim.Native.Nat.{min}
-use mathlib.Core.Path.{ap, _∙_}
+use Prim.Native.Nat.{_-_, _≤_}
+use native.Mathlib.Omega.{arith}
+use mathlib.Core.Bool.{not, cond}
+use mathlib.Core.Path.{_≡_, ap, _∙_}
+use lib.ListN.{length}
 use denote.Ref.{now}
 use Rattle.store_layout.specs.Store.{entriesOf}
-use Rattle.operation_range.specs.RangeLaws.{places-law}
+use Rattle.store_layout.specs.StoreLaws.{room}
+use Rattle.access_permission.specs.Permissions.{RANGE}
+use Rattle.operation_visible.specs.Seen.{seenBy}
+use Rattle.operation_range.specs.Range.{rangeBy}
+use Rattle.operation_range.specs.RangeLaws.{range-law, bound-most, first-most}
 use borrow.Author.Needs.{needs}
 use Rattle.operation_range.proofs.range_places.Statement.{statement}
 use Rattle.operation_range.proofs.range_places.Tie as tie
@@ -23,19 +29,41 @@ either-requires c κs = search needs
 less-requires-2 : tie.Need-less-requires-2
 less-requires-2 c κs = search needs
 
-least-requires : tie.Need-least-requires
-least-requires c κs = search needs
+list-visible-requires : tie.Need-list-visible-requires
+list-visible-requires c κs =
+    let s = c .before .before .before .before .before .before .before .before .before .before .before in
+    let g = s .pre .0 in
+    let l = now (s .args .store) in
+    let o = s .args .options in
+    let low = c .before .before .before .before .before .before .bound in
+    let high = c .before .before .before .before .bound2 in
+    let n = length (entriesOf l) in
+    let a : low .result ≤ n = omega (arith, low .ensures, bound-most (o .«start_inclusive») (now (s .args .start)) (entriesOf l)) in
+    let b : high .result ≤ n = omega (arith, high .ensures, bound-most (not (o .«end_inclusive»)) (now (s .args .end)) (entriesOf l)) in
+    let first : c .before .before .either .result ≡ cond (o .reverse) (high .result - 1) (low .result) =
+    c .before .before .either .ensures ∙ ap (λ h. cond (o .reverse) h (low .result)) (c .before .before .before .less .ensures) in
+    (g, s .pre .1, omega (arith, first, first-most (o .reverse) (high .result) (low .result) n b a, c .before .less2 .ensures, b, room l, g .most), s .pre .2)
+
+same-length : tie.Need-same-length
+same-length c = search needs
 
 returns : tie.Need-returns
 returns c =
-    let a = c .before .before .before .before .before .before .before .before .before .before .args in
-    let o = a .options in
-    let low = c .before .before .before .before .before .before .bound in
-    let high = c .before .before .before .before .bound2 in
-    places-law (now (a .start)) (now (a .end)) (o .«start_inclusive») (o .«end_inclusive») (o .most) (o .reverse) (entriesOf (now (a .store))) _ (low .result) (high .result)
-    (low .ensures) (high .ensures)
-    (c .before .before .either .ensures ∙ ap (λ h. cond (o .reverse) h (low .result)) (c .before .before .before .less .ensures))
-    (c .least .ensures ∙ ap (λ n. min (o .most) n) (c .before .less2 .ensures))
+    let s = c .before .before .before .before .before .before .before .before .before .before .before .before .before .before in
+    let g = s .pre .0 in
+    let l = now (s .args .store) in
+    let o = s .args .options in
+    let low = c .before .before .before .before .before .before .before .before .before .bound in
+    let high = c .before .before .before .before .before .before .before .bound2 in
+    let either = c .before .before .before .before .before .either in
+    let less2 = c .before .before .before .before .less2 in
+    let w = c .before .before .list-visible .ensures in (
+      w .0
+          ∙ range-law (seenBy (now (s .args .device)) (s .args .viewer) RANGE) (rangeBy (now (s .args .start)) (now (s .args .end)) o) (entriesOf l) (low .result) (high .result) (either .result)
+          (less2 .result) (g .sorted) (low .ensures) (high .ensures)
+          (either .ensures ∙ ap (λ h. cond (o .reverse) h (low .result)) (c .before .before .before .before .before .before .less .ensures)) (less2 .ensures),
+      w .1,
+    )
 
 pub range-places-spec : {M : Type 1} → statement M
 range-places-spec =
@@ -46,5 +74,6 @@ range-places-spec =
     less-requires
     either-requires
     less-requires-2
-    least-requires
+    list-visible-requires
+    same-length
     returns)

@@ -39,7 +39,7 @@ returns c =
     let z = f .before .before .before .before .before .before .before in
     λ (t : State) (q : t .store ≡ now (z .args .store)).
     sent-as (z .args .reply-to) (now (z .args .signing-key))
-    (ap₂ (shown t) (c .before .before .before .flag-of .ensures) (f .find-entry .ensures .same t q ∙ ap (sought (z .args .which) t) (cut-part (z .pre .3 .key))))
+    (ap₂ (shown t) (c .before .before .before .flag-of .ensures) (f .find-entry .ensures .same t q ∙ ap (sought (z .args .which) (now (z .args .device)) t) (cut-part (z .pre .3 .key))))
     (c .before .before .show .ensures t)
 
 pub get-spec : {M : Type 1} → statement M

@@ -7,7 +7,7 @@ use lib.Bits.{bitXor}
 use lib.ListN.{length, replicate, length-set, length-map, length-replicate}
 use lib.Seq.{paste, paste-zero}
 use Rattle.signature_sha1.specs.PaddedBlockLaws.{front-more}
-use Rattle.signature_hmac.specs.AgreeLaws.{masked-made, map-at}
+use Rattle.signature_hmac.specs.KeyBlockLaws.{masked-made, map-at}
 use borrow.Author.Needs.{needs}
 use Rattle.signature_hmac.proofs.key_block.Statement.{statement}
 use Rattle.signature_hmac.proofs.key_block.Tie as tie

@@ -3,7 +3,7 @@ use denote.Ref.{now}
 use Rattle.signature_hmac.specs.declared.Mac.the-variants.{Made, KeyTooLong, TextTooLong}
 use Rattle.base_definitions.specs.Lists.{sameBytes}
 use Rattle.signature_hmac.specs.Hmac.{macAnswer}
-use Rattle.signature_hmac.specs.HmacLaws.{verified-by, bytes-length}
+use Rattle.signature_hmac.specs.HmacLaws.{verified-by}
 use borrow.Author.Needs.{needs}
 use Rattle.signature_hmac.proofs.verify.Statement.{statement}
 use Rattle.signature_hmac.proofs.verify.Tie as tie
@@ -17,8 +17,11 @@ enum-known-s c = search needs
 bytes-requires : tie.Need-bytes-requires
 bytes-requires c κs = search needs
 
-same-digest-requires : tie.Need-same-digest-requires
-same-digest-requires c κs = rw (c .before .bytes .ensures) (bytes-length _)
+slice-aggregate-same : tie.Need-slice-aggregate-same
+slice-aggregate-same c = search needs
+
+same-requires : tie.Need-same-requires
+same-requires c κs = search needs
 
 enum-told : tie.Need-enum-told
 enum-told c = search needs
@@ -30,7 +33,7 @@ returns : tie.Need-returns
 returns c =
     let h = c .before .before .before .before .before .before in
     let a = h .before .before .before .before .args in
-    c .same-digest .ensures ∙ ap (λ d. sameBytes d (now (a .sent))) (c .before .before .bytes .ensures)
+    c .same .ensures ∙ ap (λ d. sameBytes d (now (a .sent))) (c .before .before .bytes .ensures)
     ∙ verified-by (now (a .key)) (now (a .text)) (now (a .sent)) (macAnswer (Made _))
     (ap macAnswer (sym (c .before .before .before .before .s .given .1)) ∙ h .hmac .ensures)
 
@@ -53,7 +56,8 @@ verify-spec =
     hmac-requires
     enum-known-s
     bytes-requires
-    same-digest-requires
+    slice-aggregate-same
+    same-requires
     enum-told
     enum-told-2
     returns

@@ -3,7 +3,7 @@ use mathlib.Core.Path.{ap}
 use denote.Ref.{now}
 use Rattle.fields_encoding.specs.Encode.{lenField}
 use Rattle.fields_write_bytes.specs.PushedLaws.{again}
-use Rattle.reply_range.specs.KeysLaws.{key-part, key-short}
+use Rattle.operation_visible.specs.SeenLaws.{key-part, key-short}
 use borrow.Author.Needs.{needs}
 use Rattle.reply_range.proofs.parts.push_key.Statement.{statement}
 use Rattle.reply_range.proofs.parts.push_key.Tie as tie

@@ -1,7 +1,8 @@
 use native.Mathlib.Omega.{arith}
+use lib.ListN.{take}
 use denote.Ref.{now}
 use Rattle.store_layout.specs.Store.{entriesOf}
-use Rattle.operation_range.specs.Keys.{keysFrom}
+use Rattle.operation_range.specs.Keys.{keysAt}
 use Rattle.reply_range.specs.KeysLaws.{range-law}
 use borrow.Author.Needs.{needs}
 use Rattle.reply_range.proofs.parts.push_range.Statement.{statement}
@@ -27,8 +28,8 @@ same-length c = search needs
 
 returns : tie.Need-returns
 returns c =
-    let a = c .before .before .before .before .before .before .before .before .before .before .before .before .before .before .args in (
-      range-law (keysFrom (a .reverse) (a .first) (a .count) (entriesOf (now (a .store)))) (c .before .before .push-head2 .ensures .0)
+    let a = c .before .before .before .before .before .before .before .before .before .before .before .before .before .before .before .args in (
+      range-law (keysAt (entriesOf (now (a .store))) (take (a .count) (now (a .places)))) (c .before .before .push-head2 .ensures .0)
           (c .before .before .before .before .before .before .push-head .ensures .0) (c .before .before .before .before .before .before .before .before .before .before .push-keys .ensures .0),
       omega arith,
     )

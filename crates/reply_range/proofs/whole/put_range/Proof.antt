@@ -1,5 +1,6 @@
 use native.Mathlib.Omega.{arith}
 use mathlib.Core.Path.{refl}
+use lib.ListN.{take}
 use denote.Ref.{now}
 use Rattle.base_integers.specs.Signed.{wordOf}
 use Rattle.base_integers.specs.SignedLaws.{word-kept}
@@ -8,7 +9,7 @@ use Rattle.protocol.specs.Judge.{range}
 use Rattle.reply_command.specs.PartsLaws.{command-law}
 use Rattle.reply_command.specs.Repeated.{ackOf, commandTo}
 use Rattle.reply_envelope.specs.FramesLaws.{no-value, signed-whole, copied}
-use Rattle.operation_range.specs.Keys.{keysFrom}
+use Rattle.operation_range.specs.Keys.{keysAt}
 use borrow.Author.Needs.{needs}
 use Rattle.reply_range.proofs.whole.put_range.Statement.{statement}
 use Rattle.reply_range.proofs.whole.put_range.Tie as tie
@@ -54,11 +55,11 @@ same-length c = search needs
 
 returns : tie.Need-returns
 returns c =
-    let a = c .before .before .before .before .before .before .before .before .before .before .before .before .before .before .before .before .before .before .before .before .before .before .args in
+    let a = c .before .before .before .before .before .before .before .before .before .before .before .before .before .before .before .before .before .before .before .before .before .before .before .args in
     let to = a .reply-to in
     let told = c .before .before .before .before .before .before .before .before .struct-told in
     let end = c .before .before .before .before .before .before .before .finish in
-    let body = range (keysFrom (a .reverse) (a .first) (a .count) (entriesOf (now (a .store)))) in
+    let body = range (keysAt (entriesOf (now (a .store))) (take (a .count) (now (a .places)))) in
     let command = command-law (wordOf (to .connection)) (ackOf to) (to .kind) body 1 (c .before .before .before .before .before .before .before .before .before .before .before .push-header .ensures .0)
     (c .before .before .before .before .before .before .before .before .before .before .before .before .before .before .push-range .ensures .0)
     (c .before .before .before .before .before .before .before .before .before .before .before .before .before .before .before .before .before .push-status .ensures .0) in

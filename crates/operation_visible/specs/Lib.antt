@@ -1,0 +1,5 @@
+pub mod Runs
+pub mod RunLaws
+pub mod BoundLaws
+pub mod Seen
+pub mod SeenLaws
