@@ -15,7 +15,10 @@
 #endif
 uint32_t fields_request(const uint8_t *command, size_t n, uint64_t held[9]);
 
-enum { ROUNDS = 4000, REPEAT = 4, ENTRIES = 128, STORE = ENTRIES * 512, KEY = 20 };
+enum { ROUNDS = 4000, REPEAT = 4, ENTRIES = 128, STORE = ENTRIES * 512, KEY = 20, SCOPES = 4, MOST_KEY = 64 };
+
+/* The keys of the store: of one timer; of 64 bytes, alike in the first 61 or more; of four timers by turns. */
+enum { ONE_TIMER, ALIKE, BY_TURNS };
 
 enum { WHOLE, CHECK, MAC, DECODING, OPENSSL, WHATS };
 
@@ -33,6 +36,7 @@ static uint8_t fresh[PLAIN_CONNECTION], connection[PLAIN_CONNECTION], key[KEY], 
 static uint8_t version[16], tag[32], value[384], readings[PLAIN_READINGS];
 static uint64_t counts[2], held[9];
 static volatile uint32_t sink;
+static int naming;
 
 static void fail(const char *what, const char *name) {
     printf("%s: %s\n", name, what);
@@ -41,11 +45,17 @@ static void fail(const char *what, const char *name) {
 
 /* ---- The messages */
 
-static size_t key_of(char *to, size_t room, int i) { return (size_t)snprintf(to, room, "timer07/%08d", i); }
+static size_t key_of(char *to, size_t room, int i) {
+    switch (naming) {
+    case ALIKE: return (size_t)snprintf(to, room, "site-12/hall-03/line-07/timer-0042/sensor-wbgt/2031-07-14/%06d", i);
+    case BY_TURNS: return (size_t)snprintf(to, room, "%08d/timer%02d", i / 4, i % 4);
+    default: return (size_t)snprintf(to, room, "timer07/%08d", i);
+    }
+}
 
 static void put_of(text *c, int i) {
     text kv = {.n = 0}, body = {.n = 0};
-    char k[32];
+    char k[MOST_KEY + 8];
     bytes(&kv, 2, version, sizeof version);
     bytes(&kv, 3, k, key_of(k, sizeof k, i));
     bytes(&kv, 5, tag, sizeof tag);
@@ -57,16 +67,24 @@ static void put_of(text *c, int i) {
 
 static void get_of(text *c, int i) {
     text kv = {.n = 0}, body = {.n = 0};
-    char k[32];
+    char k[MOST_KEY + 8];
     bytes(&kv, 3, k, key_of(k, sizeof k, i));
     bytes(&body, 1, kv.at, kv.n);
     command(c, 1, 1, 2, body.at, body.n);
 }
 
+/* From a key below all. */
+static void next_of(text *c) {
+    text kv = {.n = 0}, body = {.n = 0};
+    bytes(&kv, 3, "a", 1);
+    bytes(&body, 1, kv.at, kv.n);
+    command(c, 1, 1, 8, body.at, body.n);
+}
+
 /* From key i, inclusive, up: 32 keys where there are as many. */
 static void range_of(text *c, int i) {
     text range = {.n = 0}, body = {.n = 0};
-    char k[32];
+    char k[MOST_KEY + 8];
     bytes(&range, 1, k, key_of(k, sizeof k, i));
     bytes(&range, 2, k, key_of(k, sizeof k, ENTRIES));
     number(&range, 3, 1);
@@ -128,15 +146,26 @@ static void measured(void) {
     }
 }
 
-static void fill(void) {
-    text c, f;
+static void prepare(void) {
     measured();
     for (size_t i = 0; i < sizeof value; i++) value[i] = (uint8_t)(i * 7 + 1);
     for (size_t i = 0; i < sizeof tag; i++) tag[i] = (uint8_t)(i + 1);
     for (size_t i = 0; i < sizeof version; i++) version[i] = (uint8_t)(i + 9);
     for (size_t i = 0; i < KEY; i++) key[i] = (uint8_t)(i + 1);
-    if (plain_format(store, STORE, record, key, KEY)) fail("refused", "format");
     plain_connect(fresh, 1, 0);
+}
+
+/* The state that calls start from: store and record as they are now. */
+static void keep(void) {
+    memcpy(first_store, store, STORE);
+    memcpy(first_record, record, sizeof record);
+}
+
+/* A full store, and an identity that may do all. */
+static void fill(int keys) {
+    text c, f;
+    naming = keys;
+    if (plain_format(store, STORE, record, key, KEY)) fail("refused", "format");
     for (int i = 0; i < ENTRIES; i++) {
         put_of(&c, i);
         framed(&f, &c, 1, sizeof value);
@@ -144,8 +173,30 @@ static void fill(void) {
         if (plain_answer(store, STORE, record, connection, readings, sizeof readings, f.at, f.n, out, sizeof out, counts) || connection[9])
             fail("not put", "an entry");
     }
-    memcpy(first_store, store, STORE);
-    memcpy(first_record, record, sizeof record);
+    keep();
+}
+
+/* The identity's scopes: every permission, and a value at an offset. */
+static void write_scope(int i, int offset, const char *its, size_t n) {
+    uint8_t *scope = record + 16 + 80 + 72 * i;
+    record[16 + 9] = (uint8_t)(i + 1);
+    memset(scope, 0, 72);
+    scope[0] = (uint8_t)offset;
+    scope[1] = (uint8_t)n;
+    scope[2] = 0x03; /* 0-5, 7, 8, 9 */
+    scope[3] = 0xbf;
+    memcpy(scope + 8, its, n);
+}
+
+/* Four scopes with values of 64 bytes that are keys of the store but for one byte. */
+static void write_scopes(int other_byte) {
+    char k[MOST_KEY + 8];
+    for (int i = 0; i < SCOPES; i++) {
+        size_t n = key_of(k, sizeof k, i * ENTRIES / SCOPES);
+        k[other_byte] = 'x';
+        write_scope(i, 0, k, n);
+    }
+    keep();
 }
 
 /* ---- Measuring */
@@ -245,12 +296,35 @@ static void measure_repeated(const call *put) {
     }
 }
 
+/* Keys that the scopes don't fit. */
+static void measure_filtered(void) {
+    static call last = {.name = "signed GETNEXT, none of 128 keys of 64 fits four scopes, alike but for the last bytes"},
+                first = {.name = "signed GETNEXT, none of 128 keys of 64 fits four scopes, the first byte another"},
+                fourth = {.name = "signed GETKEYRANGE of 32 keys, every fourth of 128 fits"};
+    fill(ALIKE);
+    next_of(&last.told);
+    next_of(&first.told);
+    framed(&last.input, &last.told, 1, 0);
+    framed(&first.input, &first.told, 1, 0);
+    write_scopes(MOST_KEY - 1);
+    measure(&last);
+    write_scopes(0);
+    measure(&first);
+    fill(BY_TURNS);
+    range_of(&fourth.told, 0);
+    framed(&fourth.input, &fourth.told, 1, 0);
+    write_scope(0, 8, "/timer02", 8);
+    keep();
+    measure(&fourth);
+}
+
 int main(void) {
     static call put = {.name = "signed PUT over an entry, value of 384"}, get = {.name = "signed GET, value of 384"},
                 range = {.name = "signed GETKEYRANGE of 32 keys"}, log = {.name = "signed GETLOG of every type, six readings"},
                 more = {.name = "refused: MORE, a byte is missing", .refusal = 5},
                 closed = {.name = "refused: CLOSED", .refusal = 4, .closed = 1}, unsigned_ = {.name = "unsigned: closing reply"};
-    fill();
+    prepare();
+    fill(ONE_TIMER);
     put_of(&put.told, 64);
     get_of(&get.told, 64);
     range_of(&range.told, 64);
@@ -266,5 +340,6 @@ int main(void) {
     call *all[] = {&put, &get, &range, &log, &more, &closed, &unsigned_};
     for (size_t i = 0; i < sizeof all / sizeof *all; i++) measure(all[i]);
     measure_repeated(&put);
+    measure_filtered();
     return 0;
 }
