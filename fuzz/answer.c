@@ -85,24 +85,32 @@ typedef struct {
     uint8_t again, cut[2];
 } choices;
 
-/* A store of 128 entries; a record as formatted, one of three ACLs, and the same with other bytes where the layout uses none; readings, all six; a
-   value part. */
-static uint8_t full[MOST_STORE], formatted[PLAIN_RECORD], table[PLAIN_RECORD], littered[PLAIN_RECORD], every[MOST_READINGS], filling[1025];
+/* A store of 128 entries; a record as formatted, one of three ACLs, the same with other bytes where the layout uses none, and one of three tenants;
+   readings, all six; a value part. */
+static uint8_t full[MOST_STORE], formatted[PLAIN_RECORD], table[PLAIN_RECORD], littered[PLAIN_RECORD], tenants[PLAIN_RECORD], every[MOST_READINGS];
+static uint8_t filling[1025];
 static const uint8_t key[KEY_LEN + 1] = "key-of-one";
 static const int64_t identities[] = {1, 3, -2, 99};
 
-static void write_acl(uint8_t *at, int64_t identity, uint16_t mask, const char *value, int tls) {
+static void write_acl(uint8_t *at, int64_t identity) {
     for (int i = 0; i < 8; i++) at[i] = (uint8_t)((uint64_t)identity >> (56 - 8 * i));
     at[8] = KEY_LEN;
-    at[9] = 1;
+    at[9] = 0;
     memcpy(at + 16, key, KEY_LEN);
-    at[80] = 0;
-    at[81] = (uint8_t)strlen(value);
-    at[82] = (uint8_t)(mask >> 8);
-    at[83] = (uint8_t)mask;
-    at[84] = (uint8_t)tls;
-    memcpy(at + 88, value, strlen(value));
 }
+
+/* One scope more of an ACL. */
+static void write_scope(uint8_t *acl, uint16_t mask, uint8_t offset, const char *value, int tls) {
+    uint8_t *at = acl + 80 + 72 * acl[9]++;
+    at[0] = offset;
+    at[1] = (uint8_t)strlen(value);
+    at[2] = (uint8_t)(mask >> 8);
+    at[3] = (uint8_t)mask;
+    at[4] = (uint8_t)tls;
+    memcpy(at + 8, value, strlen(value));
+}
+
+static uint8_t *acl_at(uint8_t *record, int i) { return record + 16 + i * 368; }
 
 /* Temperatures in Celsius and Fahrenheit by turns, names of 1 to 16 bytes. What follows the 134 bytes is like them, for wrong lengths. */
 static void write_readings(void) {
@@ -125,9 +133,28 @@ static void write_table(uint8_t *record, int unused) {
     memset(record, unused, PLAIN_RECORD);
     memset(record, 0, 8);
     record[8] = 3;
-    write_acl(record + 16, 1, 0x3bf, "", 0);
-    write_acl(record + 16 + 368, 3, 0x3bf, "", 1);
-    write_acl(record + 16 + 2 * 368, -2, 0x9, "key0", 0);
+    for (int i = 0; i < 3; i++) write_acl(acl_at(record, i), identities[i]);
+    write_scope(acl_at(record, 0), 0x3bf, 0, "", 0);
+    write_scope(acl_at(record, 1), 0x3bf, 0, "", 1);
+    write_scope(acl_at(record, 2), 0x9, 0, "key0", 0);
+}
+
+/* Each may read and range some of the keys, "key000" to "key127": 1 those that end in 3, and in 7 if protected; 3 reads what it may not range, and the
+   other way; -2 the last one, and what no key has. What 1 writes it may not read. */
+static void write_tenants(uint8_t *record) {
+    memset(record, 0, PLAIN_RECORD);
+    record[8] = 3;
+    for (int i = 0; i < 3; i++) write_acl(acl_at(record, i), identities[i]);
+    write_scope(acl_at(record, 0), 0x9, 5, "3", 0);
+    write_scope(acl_at(record, 0), 0x9, 5, "7", 1);
+    write_scope(acl_at(record, 0), 0x3b6, 0, "", 0);
+    write_scope(acl_at(record, 1), 0x1, 4, "1", 0);
+    write_scope(acl_at(record, 1), 0x8, 4, "2", 0);
+    write_scope(acl_at(record, 1), 0x1, 3, "11", 1);
+    write_scope(acl_at(record, 1), 0x8, 0, "key0", 1);
+    write_scope(acl_at(record, 2), 0x9, 0, "key127", 0);
+    write_scope(acl_at(record, 2), 0x9, 6, "0", 0);
+    write_scope(acl_at(record, 2), 0x9, 64, "", 1);
 }
 
 static void prepare(void) {
@@ -143,6 +170,7 @@ static void prepare(void) {
     hold(plain_format(blank, BLOCK, formatted, key, KEY_LEN) == 0, "format");
     write_table(table, 0);
     write_table(littered, 0x5a);
+    write_tenants(tenants);
     write_readings();
     for (size_t i = 0; i < sizeof filling; i++) filling[i] = (uint8_t)(i * 13 + 1);
 }
@@ -173,10 +201,13 @@ static range store_of(const choices *c, uint8_t *to) {
     return (range){to, n};
 }
 
+/* As formatted; of three ACLs; with litter; damaged; of tenants; of tenants and damaged. */
 static range record_of(const choices *c, uint8_t *to) {
-    const uint8_t *records[] = {formatted, table, littered, table};
-    memcpy(to, records[c->record % 4], PLAIN_RECORD);
-    if (c->record % 4 == 3) to[place_of(c->record_place, PLAIN_RECORD)] ^= c->record_change;
+    enum { FORMATTED, TABLE, LITTERED, DAMAGED, TENANTS, OTHER_TENANTS, KINDS };
+    const uint8_t *records[KINDS] = {formatted, table, littered, table, tenants, tenants};
+    int kind = c->record % KINDS;
+    memcpy(to, records[kind], PLAIN_RECORD);
+    if (kind == DAMAGED || kind == OTHER_TENANTS) to[place_of(c->record_place, PLAIN_RECORD)] ^= c->record_change;
     return (range){to, PLAIN_RECORD};
 }
 

@@ -16,6 +16,7 @@ RAW, MESSAGE, COMMAND, BODY, PART = range(5)
 NO_VALUE, VALUE_384, VALUE_385 = 0, 4, 5
 NOT_AGAIN, PART_AGAIN, BODY_AGAIN, HEADER_AGAIN, COMMAND_FIELDS, AUTH_AGAIN, COMMAND_BYTES_AGAIN, MESSAGE_FIELDS = range(8)
 AFTER = 0x80
+FORMATTED, TABLE, LITTERED, RECORD_DAMAGED, TENANTS, OTHER_TENANTS = range(6)
 EVERY_READING, NO_READING, READING_VALUE, READING_DAMAGED, READINGS_LENGTH, READINGS_EMPTY = range(6)
 
 
@@ -45,6 +46,26 @@ def ranges():
         yield seed(message((1, b"key001"), (2, b"key003"), *flags), operation="GETKEYRANGE", blocks=255, store=FULL)
     yield seed(message((1, b""), (2, b"\xff"), (5, 32)), operation="GETKEYRANGE", blocks=255, store=FULL)
     yield seed(message((1, b"key0"), (2, b"key02"), (5, 2)), operation="GETKEYRANGE", identity=2)
+
+
+def tenants():
+    """Keys that no usable scope fits beside such that one does: from both ends, past the last, between, on plain and protected connections."""
+    for identity in (0, 1, 2):
+        for connection in (0, 1):
+            state = {"record": TENANTS, "store": FULL, "blocks": 255, "identity": identity, "connection": connection}
+            for operation in ("GETNEXT", "GETPREVIOUS"):
+                for key in (b"a", b"key003", b"key0035", b"key064", b"key123", b"key127", b"z"):
+                    yield seed(message((3, key)), operation=operation, **state)
+                yield seed(message((3, b"key064"), (7, 1)), operation=operation, **{**state, "blocks": 7})
+            for most in (None, 0, 1, 2, 12, 32):
+                for reverse in (None, 1):
+                    yield seed(message((1, b""), (2, b"z"), (5, most), (6, reverse)), operation="GETKEYRANGE", **state)
+            yield seed(message((1, b"key003"), (2, b"key013"), (3, 1), (4, 1)), operation="GETKEYRANGE", **state)
+            yield seed(message((1, b"key004"), (2, b"key013")), operation="GETKEYRANGE", **state)
+            yield seed(message((3, b"key003")), operation="GET", **state)
+    for operation, part in (("GETNEXT", message((3, b"k"))), ("GETPREVIOUS", message((3, b"z"))), ("GETKEYRANGE", message((1, b"k"), (2, b"z")))):
+        for place in (25, 96, 97, 99, 100, 104, 168, 172, 176):  # identity 1's number of scopes, and bytes of its first two
+            yield seed(part, operation=operation, record=OTHER_TENANTS, record_place=place, record_change=1, store=FULL, blocks=255)
 
 
 def log(*types):
@@ -221,7 +242,7 @@ def limits():
 def main():
     folder = pathlib.Path(sys.argv[1])
     folder.mkdir(parents=True, exist_ok=True)
-    for part in (key_values, ranges, logs, tables, others, states, rescues, repeated, repeated_around, limits):
+    for part in (key_values, ranges, tenants, logs, tables, others, states, rescues, repeated, repeated_around, limits):
         for n, data in enumerate(part()):
             (folder / f"{part.__name__}-{n:02}").write_bytes(data)
 
