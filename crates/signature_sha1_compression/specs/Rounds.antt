@@ -2,17 +2,18 @@
 use mathlib.Core.Path.{_≡_}
 use mathlib.Core.List.{List}
 use Prim.Native.Nat.{ℕ, _+_, _≤_, _<_}
-use lib.ListN.{getD}
 use Rattle.signature_sha1_compression.specs.declared.State.{State}
-use Rattle.signature_sha1_compression.specs.Compression.{f, K, W, rounds}
+use Rattle.signature_sha1_compression.specs.Compression.{f, K, rounds}
+use Rattle.signature_sha1_compression.specs.Ring.{RingBefore}
 
--- the eighty schedule words of the block m
-abbrev pub Schedule : List ℕ → List ℕ → Type 0
-Schedule m w = (k : ℕ) → k < 80 → getD w k 0 ≡ W m k
+-- before round t, over the block m and from the hash value h: the ring w and the working variables s
+pub record BeforeRound (m : List ℕ) (h : State) (t : ℕ) (w : List ℕ) (s : State) : Type 0 where
+  pub ring : RingBefore m t w
+  pub state : s ≡ rounds m h t
 
--- from the working variables s before round `from` to r before round `to`, whatever the block and the hash value
-abbrev pub Advances : ℕ → ℕ → List ℕ → State → State → Type 0
-Advances from to w s r = (m : List ℕ) (h : State) → Schedule m w → s ≡ rounds m h from → r ≡ rounds m h to
+-- from w and s before round `from` to w' and r before round `to`, whatever the block and the hash value
+abbrev pub Advances : ℕ → ℕ → List ℕ → State → List ℕ → State → Type 0
+Advances from to w s w' r = (m : List ℕ) (h : State) → BeforeRound m h from w s → BeforeRound m h to w' r
 
 -- the twenty rounds from `from` on are those of the function g and the constant k
 pub record Twenty (g : ℕ → ℕ → ℕ → ℕ) (k from : ℕ) : Type 0 where

@@ -3,31 +3,24 @@ use borrow.Author.Needs.{needs}
 use Rattle.signature_sha1_compression.proofs.compress.Statement.{statement}
 use Rattle.signature_sha1_compression.proofs.compress.Tie as tie
 
--- src/lib.rt:137:9
 rounds-requires : tie.Need-rounds-requires
 rounds-requires c κs = search needs
 
--- src/lib.rt:139:12
 wrapping-add-u32-requires : tie.Need-wrapping-add-u32-requires
 wrapping-add-u32-requires c κs = search needs
 
--- src/lib.rt:140:12
 wrapping-add-u32-requires-2 : tie.Need-wrapping-add-u32-requires-2
 wrapping-add-u32-requires-2 c κs = search needs
 
--- src/lib.rt:141:12
 wrapping-add-u32-requires-3 : tie.Need-wrapping-add-u32-requires-3
 wrapping-add-u32-requires-3 c κs = search needs
 
--- src/lib.rt:142:12
 wrapping-add-u32-requires-4 : tie.Need-wrapping-add-u32-requires-4
 wrapping-add-u32-requires-4 c κs = search needs
 
--- src/lib.rt:143:12
 wrapping-add-u32-requires-5 : tie.Need-wrapping-add-u32-requires-5
 wrapping-add-u32-requires-5 c κs = search needs
 
--- src/lib.rt:133:1
 returns : tie.Need-returns
 unfolding compress addAll add
 returns c =

@@ -6,8 +6,8 @@ use borrow.Author.Needs.{needs}
 use Rattle.signature_sha1_compression.proofs.rounds.Statement.{statement}
 use Rattle.signature_sha1_compression.proofs.rounds.Tie as tie
 
-schedule-requires : tie.Need-schedule-requires
-schedule-requires c κs = search needs
+first-words-requires : tie.Need-first-words-requires
+first-words-requires c κs = search needs
 
 choice-rounds-requires : tie.Need-choice-rounds-requires
 choice-rounds-requires c κs = search needs
@@ -23,20 +23,21 @@ parity-rounds-requires-2 c κs = parity-60
 
 returns : tie.Need-returns
 returns c =
-    let a = c .before .before .before .before .before .before .before .before .before .before .args in
+    let first = c .before .before .before .before .before .before .before .before in
+    let a = first .before .before .args in
     let m = now (a .m) in
     let h = a .s in
-    let words = c .before .before .before .before .before .before .before .before .schedule .ensures in
-    c .parity-rounds2 .ensures m h words
-    (c .before .before .majority-rounds .ensures m h words
-    (c .before .before .before .before .parity-rounds .ensures m h words
-    (c .before .before .before .before .before .before .choice-rounds .ensures m h words (sym (rounds-none m h)))))
+    c .parity-rounds2 .ensures m h
+    (c .before .before .majority-rounds .ensures m h
+    (c .before .before .before .before .parity-rounds .ensures m h
+    (c .before .before .before .before .before .before .choice-rounds .ensures m h
+    record { ring = first .first-words .ensures; state = sym (rounds-none m h) }))) .state
 
 pub rounds-spec : {M : Type 1} → statement M
 rounds-spec =
     tie.close
     (tie.spec
-    schedule-requires
+    first-words-requires
     choice-rounds-requires
     parity-rounds-requires
     majority-rounds-requires
