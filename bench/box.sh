@@ -10,8 +10,6 @@ if [ "${PLAIN_TWICE:-}" ]; then
 else
     tests/staticlib
     side=target/staticlib/libc_abi.a
-    clang -O2 -Wall -Wextra -o target/bench/stack bench/stack.c $side -lpthread
-    target/bench/stack
 fi
 clang -O3 -std=gnu99 -ffp-contract=off -Wall -Wextra -Wno-deprecated-declarations -o target/bench/box \
     bench/box_bench.c bench/box.c bench/sha1.c $side target/staticlib/libbench_fields.a -lcrypto

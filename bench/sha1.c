@@ -1,4 +1,5 @@
-/* SHA-1 (FIPS 180-4) and HMAC (RFC 2104) in plain C: the peer that the proved code is measured against. */
+/* SHA-1 (FIPS 180-4) and HMAC (RFC 2104) in plain C: the peer that the proved code is measured against. Its schedule is a ring of sixteen words;
+   bench/sha1_eighty.c is this file with a schedule of eighty. */
 #include "sha1.h"
 #include <string.h>
 
@@ -8,23 +9,38 @@ static uint32_t word(const uint8_t *p) {
     return (uint32_t)p[0] << 24 | (uint32_t)p[1] << 16 | (uint32_t)p[2] << 8 | p[3];
 }
 
+#ifndef EIGHTY_WORDS /* bench/sha1_eighty.c has others for these three */
+enum { WORDS = 16 };
+
+static void first_words(uint32_t w[16], const uint8_t *m) {
+    for (int t = 0; t < 16; t++) w[t] = word(m + 4 * t);
+}
+
+/* The word of round t: the block's, or one made of four before it, which takes the oldest's place. */
+static uint32_t take_word(uint32_t w[16], size_t t) {
+    if (t < 16) return w[t];
+    uint32_t made = rotl(w[(t - 3) % 16] ^ w[(t - 8) % 16] ^ w[(t - 14) % 16] ^ w[(t - 16) % 16], 1);
+    w[t % 16] = made;
+    return made;
+}
+#endif
+
 /* One round: f is the value of its function, k its constant. */
-#define ROUND(f, k)                                   \
-    do {                                              \
-        uint32_t x = rotl(a, 5) + (f) + e + (k) + w[t]; \
-        e = d;                                        \
-        d = c;                                        \
-        c = rotl(b, 30);                              \
-        b = a;                                        \
-        a = x;                                        \
+#define ROUND(f, k)                                                \
+    do {                                                           \
+        uint32_t x = rotl(a, 5) + (f) + e + (k) + take_word(w, t); \
+        e = d;                                                     \
+        d = c;                                                     \
+        c = rotl(b, 30);                                           \
+        b = a;                                                     \
+        a = x;                                                     \
     } while (0)
 
 static void compress(uint32_t h[5], const uint8_t *m) {
-    uint32_t w[80];
-    for (int t = 0; t < 16; t++) w[t] = word(m + 4 * t);
-    for (int t = 16; t < 80; t++) w[t] = rotl(w[t - 3] ^ w[t - 8] ^ w[t - 14] ^ w[t - 16], 1);
+    uint32_t w[WORDS];
+    first_words(w, m);
     uint32_t a = h[0], b = h[1], c = h[2], d = h[3], e = h[4];
-    int t = 0;
+    size_t t = 0;
     for (; t < 20; t++) ROUND((b & c) ^ (~b & d), 0x5a827999);
     for (; t < 40; t++) ROUND(b ^ c ^ d, 0x6ed9eba1);
     for (; t < 60; t++) ROUND((b & c) ^ (b & d) ^ (c & d), 0x8f1bbcdc);

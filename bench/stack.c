@@ -1,39 +1,17 @@
 /* How much stack the answering call takes: plays the frames of crates/program_site/stdin on a stack that was painted before, and looks how far
    the paint is gone. Prints the most for any call, less what an empty call takes. */
-#define _GNU_SOURCE
-#include <pthread.h>
-#include <stdio.h>
-#include <stdlib.h>
-#include <string.h>
 #include "../include/ridgeladle.h"
+#include "painted.h"
+#include <stdio.h>
 
-enum { STACK = 1 << 20, PAINT = 0xA5 };
 static uint8_t store[65536], record[2960], connections[8][32], readings[134], out[4096], input[16384], key[128];
 static uint64_t counts[2];
 static size_t input_len;
 static uint8_t *connection;
 
-static void *nothing(void *p) { return p; }
-
 static void *call(void *p) {
     ridgeladle_answer(store, sizeof store, record, connection, readings, sizeof readings, input, input_len, out, sizeof out, counts);
     return p;
-}
-
-/* the bytes of stack that a thread running f touched */
-static size_t touched(void *(*f)(void *)) {
-    static uint8_t *stack;
-    if (!stack && posix_memalign((void **)&stack, 4096, STACK)) exit(1);
-    memset(stack, PAINT, STACK);
-    pthread_attr_t a;
-    pthread_t t;
-    pthread_attr_init(&a);
-    pthread_attr_setstack(&a, stack, STACK);
-    if (pthread_create(&t, &a, f, NULL)) exit(1);
-    pthread_join(t, NULL);
-    size_t i = 0;
-    while (i < STACK && stack[i] == PAINT) i++;
-    return STACK - i;
 }
 
 static size_t unhex(const char *s, uint8_t *to, size_t room) {
@@ -47,7 +25,7 @@ int main(int argc, char **argv) {
     static char line[40000], word[40000];
     FILE *f = fopen(argc > 1 ? argv[1] : "crates/program_site/stdin", "r");
     if (!f) return 1;
-    size_t most = 0, empty = touched(nothing);
+    size_t most = 0;
     unsigned calls = 0, place, number, protected_, blocks;
     while (fgets(line, sizeof line, f)) {
         if (sscanf(line, "format %u %39999s", &blocks, word) == 2)
@@ -59,11 +37,11 @@ int main(int argc, char **argv) {
         else if (sscanf(line, "send %u %39999s", &place, word) == 2) {
             connection = connections[place % 8];
             input_len = unhex(word, input, sizeof input);
-            size_t n = touched(call);
+            size_t n = stack_of(call);
             if (n > most) most = n;
             calls++;
         }
     }
-    printf("stack of ridgeladle_answer: at most %zu bytes over %u calls\n", most - empty, calls);
+    printf("stack of ridgeladle_answer: at most %zu bytes over %u calls\n", most, calls);
     return calls == 0;
 }
