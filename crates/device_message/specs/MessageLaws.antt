@@ -24,6 +24,7 @@ use Rattle.fields_lookup.specs.SliceLaws.{slice-at}
 use Rattle.fields_lookup.specs.Views.{bytesAt as bytesIn}
 use Rattle.request_message.specs.declared.Sealed.{Sealed}
 use Rattle.request_message.specs.Messages.{sealedView}
+use Rattle.protocol.specs.StatusCode.{CONNECTION_TERMINATED}
 use Rattle.protocol.specs.State.{State, table}
 use Rattle.protocol.specs.Reading as reading
 use Rattle.base_definitions.specs.ListLaws.{sameBytes-true, sameBytes-self}
@@ -57,7 +58,7 @@ module _ (s : State) (v : List ℕ) where
   abbrev replyTo : List ℕ → Reply State
   replyTo m = respond box s v (readingBy hmac keyOf m)
 
-  pub unread : (m : List ℕ) → readMessage m ≡ none → replyTo m ≡ close s 20
+  pub unread : (m : List ℕ) → readMessage m ≡ none → replyTo m ≡ close s CONNECTION_TERMINATED
   unfolding readingBy
   unread m e = ap (λ (o : Option Envelope). respond box s v (opened hmac keyOf o)) e
 

@@ -6,6 +6,7 @@ use Prim.Native.Nat.{ℕ, _+_, _-_, _≤_}
 use native.Mathlib.Omega.{arith}
 use lib.ListN.{length, take, drop, length-take, length-drop}
 use Rattle.log_readings.specs.Lent.{readingsGood}
+use Rattle.protocol.specs.StatusCode.{CONNECTION_TERMINATED}
 use Rattle.protocol.specs.State.{State}
 use Rattle.protocol.specs.Frame.{Framing, more, closes, whole, frameOf}
 use Rattle.protocol.specs.Answer.{Outcome, refused, Reply, reply, taking, reading, respond, serve}
@@ -66,7 +67,7 @@ module _ (s : State) (out xs : List ℕ) where
     refused-readings o = ap (λ (b : Bool). afterwards s out (cond b o (refused 7))) (sym bad)
 
     pub closing-bad : closes ≡ frameOf xs → refusing 7 s out ≡ served (frameOf xs)
-    closing-bad e = refused-readings (taking (length xs) (close s 20)) ∙ ap served e
+    closing-bad e = refused-readings (taking (length xs) (close s CONNECTION_TERMINATED)) ∙ ap served e
 
     pub whole-bad : {m v r : List ℕ} → whole m v r ≡ frameOf xs → refusing 7 s out ≡ served (frameOf xs)
     whole-bad {m} {v} e = refused-readings (taking (9 + length m + length v) (replyTo v m)) ∙ ap served e
@@ -77,9 +78,9 @@ module _ (s : State) (out xs : List ℕ) where
     passed o = ap (λ (b : Bool). afterwards s out (cond b o (refused 7))) (sym good)
 
     module _ {n : ℕ} {out' : List ℕ} {after : State} where
-      pub closing-frame : closes ≡ frameOf xs → Sent (close s 20) n out out' after
+      pub closing-frame : closes ≡ frameOf xs → Sent (close s CONNECTION_TERMINATED) n out out' after
           → answering n (length xs) after out' ≡ served (frameOf xs)
-      closing-frame e h = answered-by s (length xs) h ∙ passed (taking (length xs) (close s 20)) ∙ ap served e
+      closing-frame e h = answered-by s (length xs) h ∙ passed (taking (length xs) (close s CONNECTION_TERMINATED)) ∙ ap served e
 
       pub whole-frame : {m v r : List ℕ} {t : ℕ} → whole m v r ≡ frameOf xs → t ≡ 9 + length m + length v → Sent (replyTo v m) n out out' after
           → answering n t after out' ≡ served (frameOf xs)

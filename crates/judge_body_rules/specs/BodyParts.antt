@@ -6,6 +6,7 @@ use mathlib.Core.Option.{Option}
 use Prim.Native.Nat.{ℕ}
 use lib.ListN.{length}
 use Rattle.fields_schema.specs.Tree.{mapO, isSome}
+use Rattle.protocol.specs.StatusCode.{NO_SUCH_HMAC_ALGORITHM, INVALID_REQUEST}
 use Rattle.protocol.specs.declared.Operation.{Operation}
 use Rattle.protocol.specs.declared.Operation.the-variants.{Noop, Get, GetVersion, GetNext, GetPrevious, GetKeyRange, Put, Delete, FlushAllData, Setup, GetLog, Security}
 use Rattle.protocol.specs.Command.{KeyValue, Range, Acl, Body}
@@ -43,7 +44,7 @@ partFault Security pair change range setup log security = security
 
 -- the code of a security part: its rules, "Then an hmacAlgorithm that is present and not 1"
 abbrev pub securityFault : Option (List Acl) → ℕ
-securityFault o = cond (present securityGood o) (cond (present algorithmsGood o) 0 15) 16
+securityFault o = cond (present securityGood o) (cond (present algorithmsGood o) 0 NO_SUCH_HMAC_ALGORITHM) INVALID_REQUEST
 
 -- the length of the value part, and the code of each part; that of a getLog or a security part only where it is used
 pub record Checked (o : Operation) (b : Body) (v : List ℕ) (n p c r s l x : ℕ) : Type 0 where

@@ -10,6 +10,7 @@ use lib.ListN.{length}
 use borrow.Author.Tests.{le-leb, lt-leb}
 use Rattle.fields_schema.specs.Tree.{guard, mapO, isSome}
 use Rattle.base_definitions.specs.Lists.{within, isEmpty}
+use Rattle.protocol.specs.StatusCode.{NO_SUCH_HMAC_ALGORITHM, INVALID_REQUEST}
 use Rattle.protocol.specs.declared.Operation.{Operation}
 use Rattle.protocol.specs.declared.Operation.the-variants.{Noop, Get, GetVersion, GetNext, GetPrevious, GetKeyRange, Put, Delete, FlushAllData, Setup, GetLog, Security}
 use Rattle.protocol.specs.Command.{KeyValue, Range, Body}
@@ -39,28 +40,28 @@ by-range-lengths {g} l r e =
     e ∙ ap₂ _&&_ (sym (ap (λ (a : Option ℕ). present (λ n. leb n 64) a) (l .start)) ∙ present-length (g .startKey))
     (ap₂ _&&_ (sym (ap (λ (a : Option ℕ). present (λ n. leb n 64) a) (l .end)) ∙ present-length (g .endKey)) (sym (ap (λ (n : ℕ). leb n 32) (l .most))))
 
-pub over-long : (n m p : ℕ) → m < n → 16 ≡ cond (leb n m) p 16
-over-long n m p h = sym (ap (λ (t : Bool). cond t p 16) (lt-leb n m h))
+pub over-long : (n m p : ℕ) → m < n → INVALID_REQUEST ≡ cond (leb n m) p INVALID_REQUEST
+over-long n m p h = sym (ap (λ (t : Bool). cond t p INVALID_REQUEST) (lt-leb n m h))
 
-pub not-long : (n m p : ℕ) → n ≤ m → p ≡ cond (leb n m) p 16
-not-long n m p h = sym (ap (λ (t : Bool). cond t p 16) (le-leb n m h))
+pub not-long : (n m p : ℕ) → n ≤ m → p ≡ cond (leb n m) p INVALID_REQUEST
+not-long n m p h = sym (ap (λ (t : Bool). cond t p INVALID_REQUEST) (le-leb n m h))
 
 -- the fault of a body, by the operation
 empty : (v : List ℕ) {n : ℕ} → length v ≡ n → isEmpty v ≡ leb n 0
 empty [] e = ap (λ (n : ℕ). leb n 0) e
 empty (x ∷ xs) {n} e = sym (lt-leb n 0 (omega arith))
 
-either-broken : (x y : Bool) → broken (x && y) ≡ cond x (broken y) 16
+either-broken : (x y : Bool) → broken (x && y) ≡ cond x (broken y) INVALID_REQUEST
 either-broken true y = refl
 either-broken false y = refl
 
-either-fault : (x y : Bool) (n : ℕ) → cond (x && y) n 16 ≡ cond x (cond y n 16) 16
+either-fault : (x y : Bool) (n : ℕ) → cond (x && y) n INVALID_REQUEST ≡ cond x (cond y n INVALID_REQUEST) INVALID_REQUEST
 either-fault true y n = refl
 either-fault false y n = refl
 
 -- a part beside an empty value part
-beside : (v : List ℕ) (y : Bool) {n m : ℕ} → length v ≡ n → broken y ≡ m → broken (isEmpty v && y) ≡ cond (leb n 0) m 16
-beside v y l e = either-broken (isEmpty v) y ∙ ap₂ (λ (t : Bool) (m : ℕ). cond t m 16) (empty v l) e
+beside : (v : List ℕ) (y : Bool) {n m : ℕ} → length v ≡ n → broken y ≡ m → broken (isEmpty v && y) ≡ cond (leb n 0) m INVALID_REQUEST
+beside v y l e = either-broken (isEmpty v) y ∙ ap₂ (λ (t : Bool) (m : ℕ). cond t m INVALID_REQUEST) (empty v l) e
 
 pub by-checked : (o : Operation) (b : Body) (v : List ℕ) {n p c r s l x : ℕ} → Checked o b v n p c r s l x → cond (leb n (mostValue o)) (partFault o p c r s l x) 16 ≡ fault o b v
 by-checked Noop b v k = sym (ap broken (empty v (k .value)))
@@ -70,12 +71,12 @@ by-checked GetVersion b v k = sym (beside v (present keyValueGood (b .keyValue))
 by-checked GetNext b v k = sym (beside v (present keyValueGood (b .keyValue)) (k .value) (k .pair))
 by-checked GetPrevious b v k = sym (beside v (present keyValueGood (b .keyValue)) (k .value) (k .pair))
 by-checked Put b v k =
-    sym (either-broken (leb (length v) 384) (present changeGood (b .keyValue)) ∙ ap₂ (λ (m d : ℕ). cond (leb m 384) d 16) (k .value) (k .change))
+    sym (either-broken (leb (length v) 384) (present changeGood (b .keyValue)) ∙ ap₂ (λ (m d : ℕ). cond (leb m 384) d INVALID_REQUEST) (k .value) (k .change))
 by-checked Delete b v k = sym (beside v (present changeGood (b .keyValue)) (k .value) (k .change))
 by-checked GetKeyRange b v k = sym (beside v (present rangeGood (b .range)) (k .value) (k .range))
 by-checked Setup b v k = sym (beside v (isSome (b .setup)) (k .value) (k .setup))
 by-checked GetLog b v k = sym (beside v (present typesGood (b .getLog)) (k .value) (k .log refl))
 by-checked Security b v k =
     sym
-    (either-fault (isEmpty v) (present securityGood (b .security)) (cond (present algorithmsGood (b .security)) 0 15)
-    ∙ ap₂ (λ (t : Bool) (m : ℕ). cond t m 16) (empty v (k .value)) (k .security refl))
+    (either-fault (isEmpty v) (present securityGood (b .security)) (cond (present algorithmsGood (b .security)) 0 NO_SUCH_HMAC_ALGORITHM)
+    ∙ ap₂ (λ (t : Bool) (m : ℕ). cond t m INVALID_REQUEST) (empty v (k .value)) (k .security refl))

@@ -7,6 +7,7 @@ use Prim.Native.Nat.{ℕ}
 use lib.Dec.{eqb}
 use Rattle.protocol.specs.State.{Connection, State, table}
 use Rattle.protocol.specs.Command.{Header}
+use Rattle.protocol.specs.StatusCode.{VERSION_FAILURE, HEADER_REQUIRED, INVALID_REQUEST}
 use Rattle.protocol.specs.Judge.{aboveLast}
 
 -- the test of step 6: the connection, connectionID and sequence of the request
@@ -16,16 +17,16 @@ inOrder k c q = eqb c (k .number) && aboveLast q (k .last)
 -- steps 5 and 6 of a header with its connectionID and sequence
 abbrev pub headerRight : State → Header → ℕ → ℕ → ℕ
 headerRight s h c q =
-    cond (eqb (h .clusterVersion) (table s .clusterVersion)) (cond (inOrder (s .connection) c q) 0 16) 4
+    cond (eqb (h .clusterVersion) (table s .clusterVersion)) (cond (inOrder (s .connection) c q) 0 INVALID_REQUEST) VERSION_FAILURE
 
 abbrev pub headerThere : State → Header → Option ℕ → Option ℕ → ℕ
 headerThere s h (some c) (some q) = headerRight s h c q
-headerThere s h (some c) none = 6
-headerThere s h none q = 6
+headerThere s h (some c) none = HEADER_REQUIRED
+headerThere s h none q = HEADER_REQUIRED
 
 -- the code of the first of steps 4 to 6 that fails, else 0
 abbrev pub headerFault : State → Option Header → ℕ
-headerFault s none = 6
+headerFault s none = HEADER_REQUIRED
 headerFault s (some h) = headerThere s h (h .connectionID) (h .sequence)
 
 -- what is given of the connection, the device record and the header; one that is absent has neither connectionID nor sequence

@@ -6,6 +6,7 @@ use mathlib.Core.Option.{Option, none, some}
 use Prim.Native.Nat.{ℕ}
 use lib.Dec.{eqb}
 use Rattle.access_record.specs.Table as access
+use Rattle.protocol.specs.StatusCode.{VERSION_FAILURE, INVALID_REQUEST}
 use Rattle.protocol.specs.State.{State, table, accepted}
 use Rattle.base_definitions.specs.Options.{orElse}
 use Rattle.protocol.specs.Command.{Header, Command}
@@ -25,7 +26,7 @@ judge-by s a c v = go (c .header)
     go none = refl
     go (some h) = there (h .connectionID) (h .sequence)
       where
-        tests : (x y : Bool) (r : Result) → cond x (cond y r (fails s 16)) (fails s 4) ≡ cond (eqb (cond x (cond y 0 16) 4) 0) r (fails s (cond x (cond y 0 16) 4))
+        tests : (x y : Bool) (r : Result) → cond x (cond y r (fails s INVALID_REQUEST)) (fails s VERSION_FAILURE) ≡ cond (eqb (cond x (cond y 0 INVALID_REQUEST) VERSION_FAILURE) 0) r (fails s (cond x (cond y 0 INVALID_REQUEST) VERSION_FAILURE))
         tests true true r = refl
         tests true false r = refl
         tests false y r = refl

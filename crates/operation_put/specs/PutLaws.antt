@@ -12,6 +12,7 @@ use Rattle.store_layout.specs.declared.PutAnswer.the-variants.{Stored, Full, Un
 use Rattle.store_layout.specs.Store.{Good}
 use Rattle.store_layout.specs.Entries.{putAnswer, putStore}
 use Rattle.store_layout.specs.KeptLaws.{put-kept, put-same}
+use Rattle.protocol.specs.StatusCode.{SUCCESS, VERSION_MISMATCH}
 use Rattle.protocol.specs.State.{State}
 use Rattle.protocol.specs.Command.{KeyValue}
 use Rattle.protocol.specs.Judge.{fails, changed, entryOf, versionOf, putBy, put}
@@ -25,7 +26,7 @@ never z = absurd (omega arith)
 
 module _ (l : List ℕ) (e : Entry) where
   by-answer : (s : State) → s .store ≡ l → (a : PutAnswer) → a ≡ putAnswer l e
-      → putBy s e (putAnswer l e) ≡ cond (eqb (putCode a) 1) (changed s (putStore l e)) (fails s (putCode a))
+      → putBy s e (putAnswer l e) ≡ cond (eqb (putCode a) SUCCESS) (changed s (putStore l e)) (fails s (putCode a))
   by-answer s q Stored h = ap (putBy s e) (sym h) ∙ ap (λ (m : List ℕ). changed s (putStore m e)) q
   by-answer s q Full h = ap (putBy s e) (sym h)
   by-answer s q Unfit h = ap (putBy s e) (sym h)
@@ -42,12 +43,12 @@ module _ (l : List ℕ) (e : Entry) where
 module _ (v : List ℕ) {l key new old tag : List ℕ} {a : ℕ} {f : Bool} {k : KeyValue} (g : Good l) (p : Puts k key new old tag a f) where
   -- PUT of what the keyValue says, in a state with this store
   put-by : (s : State) → s .store ≡ l
-      → put s k v ≡ cond (f || sameBytes old (versionOf (entryOf s key))) (putBy s (entry key new tag v a) (putAnswer l (entry key new tag v a))) (fails s 8)
+      → put s k v ≡ cond (f || sameBytes old (versionOf (entryOf s key))) (putBy s (entry key new tag v a) (putAnswer l (entry key new tag v a))) (fails s VERSION_MISMATCH)
   put-by s q =
       λ i.
       cond (p .is-force i || sameBytes (p .is-old i) (versionOf (entryOf s (p .is-key i))))
       (putBy s (entry (p .is-key i) (p .is-new i) (p .is-tag i) v (p .is-algorithm i)) (putAnswer (q i) (entry (p .is-key i) (p .is-new i) (p .is-tag i) v (p .is-algorithm i))))
-      (fails s 8)
+      (fails s VERSION_MISMATCH)
 
   module _ (w : Version) (h : (s : State) → s .store ≡ l → w ≡ versionFound old (entryOf s key)) where
     tested : (t : Bool) → t ≡ versionFits w old f → (s : State) → s .store ≡ l → (f || sameBytes old (versionOf (entryOf s key))) ≡ t
@@ -56,7 +57,7 @@ module _ (v : List ℕ) {l key new old tag : List ℕ} {a : ℕ} {f : Bool} {k :
     pub put-wrong : false ≡ versionFits w old f → Changed (λ s. put s k v) 8 l l
     put-wrong b =
         record {
-          whole = λ s q. put-by s q ∙ ap (λ (t : Bool). cond t (putBy s (entry key new tag v a) (putAnswer l (entry key new tag v a))) (fails s 8)) (tested false b s q);
+          whole = λ s q. put-by s q ∙ ap (λ (t : Bool). cond t (putBy s (entry key new tag v a) (putAnswer l (entry key new tag v a))) (fails s VERSION_MISMATCH)) (tested false b s q);
           kept = λ z. refl;
           good = g;
         }
@@ -68,7 +69,7 @@ module _ (v : List ℕ) {l key new old tag : List ℕ} {a : ℕ} {f : Bool} {k :
         let d : Changed (λ s. put s k v) (putCode x) l (putStore l (entry key new tag v a)) = record {
           whole = λ s q.
               put-by s q
-              ∙ ap (λ (t : Bool). cond t (putBy s (entry key new tag v a) (putAnswer l (entry key new tag v a))) (fails s 8)) (tested true b s q)
+              ∙ ap (λ (t : Bool). cond t (putBy s (entry key new tag v a) (putAnswer l (entry key new tag v a))) (fails s VERSION_MISMATCH)) (tested true b s q)
               ∙ by-answer l (entry key new tag v a) s q x y;
           kept = u .0;
           good = u .1;

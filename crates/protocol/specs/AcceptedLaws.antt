@@ -17,6 +17,7 @@ use Rattle.store_block.specs.Entry.{Entry}
 use Rattle.store_layout.specs.declared.PutAnswer.{PutAnswer}
 use Rattle.store_layout.specs.declared.PutAnswer.the-variants.{Stored, Full, Unfit}
 use Rattle.store_layout.specs.Entries.{putAnswer, nextOf, previousOf}
+use Rattle.protocol.specs.StatusCode.{VERSION_FAILURE, INVALID_REQUEST}
 use Rattle.protocol.specs.declared.Operation.{Operation}
 use Rattle.protocol.specs.declared.Operation.the-variants.{Noop, Get, GetVersion, GetNext, GetPrevious, GetKeyRange, Put, Delete, FlushAllData, Setup, GetLog, Security}
 use Rattle.protocol.specs.declared.Asked.{Asked}
@@ -167,7 +168,7 @@ module _ (s : State) (a : access.Acl) (c : Command) (v : List ℕ) where
       both-there h (some i) none = refl
       both-there h (some i) (some q) =
           last (eqb (h .clusterVersion) (table s .clusterVersion)) (eqb i (s .connection .number) && aboveLast q (s .connection .last))
-          (onwards q (askedBy (h .messageType))) (fails s 16) (fails s 4) (keeps-onwards q (askedBy (h .messageType)) .read) refl refl
+          (onwards q (askedBy (h .messageType))) (fails s INVALID_REQUEST) (fails s VERSION_FAILURE) (keeps-onwards q (askedBy (h .messageType)) .read) refl refl
 
       go : (o : Option Header) → before o .state .readings ≡ s .readings
       go none = refl

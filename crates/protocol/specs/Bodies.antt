@@ -9,6 +9,7 @@ use Rattle.protocol.specs.declared.Operation.{Operation}
 use Rattle.protocol.specs.declared.Operation.the-variants.{Noop, Get, GetVersion, GetNext, GetPrevious, GetKeyRange, Put, Delete, FlushAllData, Setup, GetLog, Security}
 use Rattle.protocol.specs.declared.Asked.{Asked}
 use Rattle.protocol.specs.declared.Asked.the-variants.{Request, NotBuilt}
+use Rattle.protocol.specs.StatusCode.{SUCCESS}
 use Rattle.protocol.specs.Judge.{Log, ReplyBody, Result, bare, keyValue, range, log}
 
 -- no body field and no value part
@@ -37,5 +38,5 @@ ShapeOf m NotBuilt b v = ⊥
 
 -- a result of a request, with metadataOnly or not
 pub record Bodied (m : Bool) (a : Asked) (r : Result) : Type 0 where
-  pub success : r .code ≡ 1 → ShapeOf m a (r .body) (r .value)
-  pub failure : (r .code ≡ 1 → ⊥) → Bare (r .body) (r .value)
+  pub success : r .code ≡ SUCCESS → ShapeOf m a (r .body) (r .value)
+  pub failure : (r .code ≡ SUCCESS → ⊥) → Bare (r .body) (r .value)

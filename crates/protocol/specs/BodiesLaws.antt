@@ -14,6 +14,7 @@ use Rattle.store_block.specs.Entry.{Entry}
 use Rattle.store_layout.specs.declared.PutAnswer.{PutAnswer}
 use Rattle.store_layout.specs.declared.PutAnswer.the-variants.{Stored, Full, Unfit}
 use Rattle.store_layout.specs.Entries.{nextOf, previousOf, putAnswer, putStore, deleteStore}
+use Rattle.protocol.specs.StatusCode.{NO_SUCH_HMAC_ALGORITHM, INVALID_REQUEST}
 use Rattle.protocol.specs.declared.Operation.{Operation}
 use Rattle.protocol.specs.declared.Operation.the-variants.{Noop, Get, GetVersion, GetNext, GetPrevious, GetKeyRange, Put, Delete, FlushAllData, Setup, GetLog, Security}
 use Rattle.protocol.specs.declared.Permission.{Permission}
@@ -42,8 +43,8 @@ module _ (m : Bool) where
 
 by-fault : (m : Bool) (a : Asked) (s : State) (next : Result) {n : ℕ} → FaultCode n → Bodied m a next → Bodied m a (cond (eqb n 0) next (fails s n))
 by-fault m a s next nothing h = h
-by-fault m a s next no-algorithm h = failed m a s 15 (λ e. omega arith)
-by-fault m a s next invalid h = failed m a s 16 (λ e. omega arith)
+by-fault m a s next no-algorithm h = failed m a s NO_SUCH_HMAC_ALGORITHM (λ e. omega arith)
+by-fault m a s next invalid h = failed m a s INVALID_REQUEST (λ e. omega arith)
 
 -- ---- step 10
 

@@ -5,6 +5,7 @@ use mathlib.Core.List.{List}
 use lib.Dec.{leb}
 use lib.ListN.{length}
 use Rattle.fields_schema.specs.Tree.{isSome}
+use Rattle.protocol.specs.StatusCode.{NO_SUCH_HMAC_ALGORITHM, INVALID_REQUEST}
 use Rattle.protocol.specs.declared.Operation.{Operation}
 use Rattle.protocol.specs.declared.Operation.the-variants.{Noop, Get, GetVersion, GetNext, GetPrevious, GetKeyRange, Put, Delete, FlushAllData, Setup, GetLog, Security}
 use Rattle.protocol.specs.Command.{Body}
@@ -17,7 +18,7 @@ broken-code true = nothing
 broken-code false = invalid
 
 abbrev secured : Bool → Bool → ℕ
-secured t u = cond t (cond u 0 15) 16
+secured t u = cond t (cond u 0 NO_SUCH_HMAC_ALGORITHM) INVALID_REQUEST
 
 security-code : (t u : Bool) → FaultCode (secured t u)
 security-code true true = nothing

@@ -19,6 +19,7 @@ use Rattle.store_layout.specs.declared.PutAnswer.{PutAnswer}
 use Rattle.store_layout.specs.declared.PutAnswer.the-variants.{Stored, Full, Unfit}
 use Rattle.store_layout.specs.Entries.{hasRoom, putAnswer}
 use Rattle.store_layout.specs.KeptLaws.{fit-answer}
+use Rattle.protocol.specs.StatusCode.{VERSION_MISMATCH, NO_SPACE}
 use Rattle.protocol.specs.declared.Operation.the-variants.{Put}
 use Rattle.protocol.specs.State.{State}
 use Rattle.protocol.specs.Command.{KeyValue, Body, commandOf}
@@ -29,17 +30,17 @@ use Rattle.protocol.specs.AlgorithmLaws.{algorithm-most}
 -- ---- which code is said when
 
 module _ (s : State) (k : KeyValue) (v : List ℕ) where
-  pub mismatch-first : versionRight k (entryOf s (k .key)) ≡ false → put s k v ≡ fails s 8
-  mismatch-first e = ap (λ (t : Bool). cond t (putBy s (newEntry k v) (putAnswer (s .store) (newEntry k v))) (fails s 8)) e
+  pub mismatch-first : versionRight k (entryOf s (k .key)) ≡ false → put s k v ≡ fails s VERSION_MISMATCH
+  mismatch-first e = ap (λ (t : Bool). cond t (putBy s (newEntry k v) (putAnswer (s .store) (newEntry k v))) (fails s VERSION_MISMATCH)) e
 
   pub by-store : versionRight k (entryOf s (k .key)) ≡ true → put s k v ≡ putBy s (newEntry k v) (putAnswer (s .store) (newEntry k v))
-  by-store e = ap (λ (t : Bool). cond t (putBy s (newEntry k v) (putAnswer (s .store) (newEntry k v))) (fails s 8)) e
+  by-store e = ap (λ (t : Bool). cond t (putBy s (newEntry k v) (putAnswer (s .store) (newEntry k v))) (fails s VERSION_MISMATCH)) e
 
   -- SUCCESS only where the store takes the entry
   pub success-stored : put s k v .code ≡ 1 → putAnswer (s .store) (newEntry k v) ≡ Stored
   success-stored e = go (versionRight k (entryOf s (k .key))) (putAnswer (s .store) (newEntry k v)) refl e
     where
-      go : (t : Bool) (r : PutAnswer) → putAnswer (s .store) (newEntry k v) ≡ r → cond t (putBy s (newEntry k v) r) (fails s 8) .code ≡ 1
+      go : (t : Bool) (r : PutAnswer) → putAnswer (s .store) (newEntry k v) ≡ r → cond t (putBy s (newEntry k v) r) (fails s VERSION_MISMATCH) .code ≡ 1
           → putAnswer (s .store) (newEntry k v) ≡ Stored
       go true Stored q e = q
       go true Full q e = absurd (omega arith)
@@ -47,10 +48,10 @@ module _ (s : State) (k : KeyValue) (v : List ℕ) where
       go false r q e = absurd (omega arith)
 
   -- NO_SPACE "only then"
-  pub no-space-full : put s k v .code ≡ 14 → putAnswer (s .store) (newEntry k v) ≡ Full
+  pub no-space-full : put s k v .code ≡ NO_SPACE → putAnswer (s .store) (newEntry k v) ≡ Full
   no-space-full e = go (versionRight k (entryOf s (k .key))) (putAnswer (s .store) (newEntry k v)) refl e
     where
-      go : (t : Bool) (r : PutAnswer) → putAnswer (s .store) (newEntry k v) ≡ r → cond t (putBy s (newEntry k v) r) (fails s 8) .code ≡ 14
+      go : (t : Bool) (r : PutAnswer) → putAnswer (s .store) (newEntry k v) ≡ r → cond t (putBy s (newEntry k v) r) (fails s VERSION_MISMATCH) .code ≡ NO_SPACE
           → putAnswer (s .store) (newEntry k v) ≡ Full
       go true Stored q e = absurd (omega arith)
       go true Full q e = q

@@ -15,6 +15,7 @@ use Rattle.access_record.specs.Table.{tableGood}
 use Rattle.store_layout.specs.Store.{storeGood}
 use Rattle.log_readings.specs.Lent.{readingsGood}
 use Rattle.signature_hmac.specs.Hmac.{hmac}
+use Rattle.protocol.specs.StatusCode.{CONNECTION_TERMINATED}
 use Rattle.protocol.specs.Frame.{Framing, more, closes, whole, frameOf}
 use Rattle.protocol.specs.State.{State, table}
 use Rattle.protocol.specs.Command.{headerOf, commandOf}
@@ -162,14 +163,14 @@ module _ (s : State) (word : s .connection .number < 2 ^ 64) where
   serve-says : (n : ℕ) (f : Framing) {r : List ℕ} {s' : State} {k : ℕ} → storeGood (s .store) ≡ true → serve box s n f ≡ answered r s' k → Replied s f r
   serve-says n more good e = never (cc)
   serve-says n closes {r} {s'} {k} good e =
-      let p = unrefused (readingsGood (s .readings)) (taking n (close s 20)) e in
+      let p = unrefused (readingsGood (s .readings)) (taking n (close s CONNECTION_TERMINATED)) e in
       record {
-        message = closingWith (s .connection .number) 20;
+        message = closingWith (s .connection .number) CONNECTION_TERMINATED;
         is = refl;
-        says = closes-says n 20 (known-code refl) r s' k (p .1);
-        content = closingContent 20;
+        says = closes-says n CONNECTION_TERMINATED (known-code refl) r s' k (p .1);
+        content = closingContent CONNECTION_TERMINATED;
         by-steps = refl;
-        gives = reply-gives s [] (closing 20);
+        gives = reply-gives s [] (closing CONNECTION_TERMINATED);
       }
   serve-says n (whole m v rest) {r} {s'} {k} good e =
       let p = unrefused (readingsGood (s .readings)) (taking (9 + length m + length v) (respond box s v (reading box s m))) e in

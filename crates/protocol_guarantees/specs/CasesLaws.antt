@@ -26,7 +26,7 @@ use Rattle.protocol.specs.declared.Operation.the-variants.{Noop, Get, GetVersio
 use Rattle.protocol.specs.declared.Choice.{Choice}
 use Rattle.protocol.specs.declared.Asked.{Asked}
 use Rattle.protocol.specs.declared.Asked.the-variants.{Request, NotBuilt}
-use Rattle.protocol.specs.StatusCode.{SUCCESS, NOT_FOUND}
+use Rattle.protocol.specs.StatusCode.{SUCCESS, NOT_FOUND, NO_SPACE, NO_SUCH_HMAC_ALGORITHM, INVALID_REQUEST, CONNECTION_TERMINATED}
 use Rattle.protocol.specs.State.{State, table, accepted, closing}
 use Rattle.protocol.specs.Command.{Header, Body, Command, commandOf}
 use Rattle.protocol.specs.Operation.{askedBy}
@@ -62,8 +62,8 @@ put-effect s b v = go (versionRight (keyValueIn b) (entryOf s (keyValueIn b .key
     go : (x : Bool) → versionRight (keyValueIn b) (entryOf s (keyValueIn b .key)) ≡ x → (y : PutAnswer) → putAnswer (s .store) (newEntry (keyValueIn b) v) ≡ y
         → Effect s b v Put (cond x (putBy s (newEntry (keyValueIn b) v) y) (fails s 8))
     go true e Stored h = puts e h
-    go true e Full h = failing 14 (λ z. omega arith)
-    go true e Unfit h = failing 16 (λ z. omega arith)
+    go true e Full h = failing NO_SPACE (λ z. omega arith)
+    go true e Unfit h = failing INVALID_REQUEST (λ z. omega arith)
     go false e y h = failing 8 (λ z. omega arith)
 
 delete-effect : (s : State) (b : Body) (v : List ℕ) → Effect s b v Delete (deleteBy s (keyValueIn b) (entryOf s (keyValueIn b .key)))
@@ -118,8 +118,8 @@ module _ (s : State) (a : access.Acl) (c : Command) (v : List ℕ) where
 
   faulty : (q : ℕ) → Passes s c q → (x : Result) {n : ℕ} → FaultCode n → (n ≡ 0 → Judged s a c v x) → Judged s a c v (cond (eqb n 0) x (fails (accepted s q) n))
   faulty q g x nothing f = f refl
-  faulty q g x no-algorithm f = late q g 15 (λ e. omega arith) (λ e. omega arith)
-  faulty q g x invalid f = late q g 16 (λ e. omega arith) (λ e. omega arith)
+  faulty q g x no-algorithm f = late q g NO_SUCH_HMAC_ALGORITHM (λ e. omega arith) (λ e. omega arith)
+  faulty q g x invalid f = late q g INVALID_REQUEST (λ e. omega arith) (λ e. omega arith)
 
   abbrev onwards : ℕ → Asked → Result
   onwards q o =
@@ -130,7 +130,7 @@ module _ (s : State) (a : access.Acl) (c : Command) (v : List ℕ) where
   asked-by q (Request x) g e =
       faulty q g (step9 (accepted s q) a (x .permission) (c .body) (step10 (accepted s q) a (x .operation) (c .body) v)) (fault-code (x .operation) (c .body) v) (λ f.
       chosen (permitted a (s .connection .protected) (x .permission) (c .body)) (step10 (accepted s q) a (x .operation) (c .body) v) (fails (accepted s q) 3) (λ p. obeyed g e f p) (late q g 3 (λ e. omega arith) (λ e. omega arith)))
-  asked-by q NotBuilt g e = late q g 16 (λ e. omega arith) (λ e. omega arith)
+  asked-by q NotBuilt g e = late q g INVALID_REQUEST (λ e. omega arith) (λ e. omega arith)
 
   both-there : (h : Header) (i q : Option ℕ) → c .header ≡ some h → h .connectionID ≡ i → h .sequence ≡ q
       → Judged s a c v (bothThere s h i q (λ h connection q. step5 s h (step6 s connection q (onwards q (askedBy (h .messageType))))))
@@ -146,7 +146,7 @@ module _ (s : State) (a : access.Acl) (c : Command) (v : List ℕ) where
         version = eqb-true (h .clusterVersion) (table s .clusterVersion) z;
         later = both-snd (eqb i (s .connection .number)) (aboveLast q (s .connection .last)) y;
       })
-      (ap (λ o. askedBy (typeOf o)) e)) (early 16 (λ e. omega arith) (λ e. omega arith)))
+      (ap (λ o. askedBy (typeOf o)) e)) (early INVALID_REQUEST (λ e. omega arith) (λ e. omega arith)))
       (early 4 (λ e. omega arith) (λ e. omega arith))
   both-there h (some i) none e ei eq = early 6 (λ e. omega arith) (λ e. omega arith)
   both-there h none q e ei eq = early 6 (λ e. omega arith) (λ e. omega arith)
@@ -174,8 +174,8 @@ judge-obeys s a c v q x p e f m =
     ∙ ap (λ i. bothThere s h i (h .sequence) (λ h connection q. step5 s h (step6 s connection q (onwards s a c v q (askedBy (h .messageType)))))) (p .connection)
     ∙ ap (λ z. bothThere s h (some n) z (λ h connection q. step5 s h (step6 s connection q (onwards s a c v q (askedBy (h .messageType)))))) (p .sequence)
     ∙ ap (λ (t : Bool). cond t (step6 s n q (onwards s a c v q (askedBy (h .messageType)))) (fails s 4)) (eq-eqb (h .clusterVersion) (table s .clusterVersion) (p .version))
-    ∙ ap (λ (t : Bool). cond (t && aboveLast q (s .connection .last)) (onwards s a c v q (askedBy (h .messageType))) (fails s 16)) (eq-eqb n n refl)
-    ∙ ap (λ (t : Bool). cond t (onwards s a c v q (askedBy (h .messageType))) (fails s 16)) (p .later)
+    ∙ ap (λ (t : Bool). cond (t && aboveLast q (s .connection .last)) (onwards s a c v q (askedBy (h .messageType))) (fails s INVALID_REQUEST)) (eq-eqb n n refl)
+    ∙ ap (λ (t : Bool). cond t (onwards s a c v q (askedBy (h .messageType))) (fails s INVALID_REQUEST)) (p .later)
     ∙ ap (onwards s a c v q) asked
     ∙ ap (λ (x : ℕ). cond (eqb x 0) permit (fails (accepted s q) x)) f
     ∙ ap (λ (t : Bool). cond t next (fails (accepted s q) 3)) m
@@ -211,7 +211,7 @@ module _ (s : State) (xs : List ℕ) where
 
   serve-left : (k : ℕ) (f : Framing) → frameOf xs ≡ f → {r : List ℕ} {s' : State} {n : ℕ} → serve box s k f ≡ answered r s' n → Left s xs s'
   serve-left k more q e = never (cc)
-  serve-left k closes q e = left-by _ (closing s) k closed (good-readings (readingsGood (s .readings)) (taking k (close s 20)) e)
+  serve-left k closes q e = left-by _ (closing s) k closed (good-readings (readingsGood (s .readings)) (taking k (close s CONNECTION_TERMINATED)) e)
   serve-left k (whole m v rest) q e =
       respond-left m v rest q (9 + length m + length v) (reading box s m) refl
       (good-readings (readingsGood (s .readings)) (taking (9 + length m + length v) (respond box s v (reading box s m))) e)
@@ -245,7 +245,7 @@ served-number k r false n e = let z : 7 ≡ n = cc in omega arith
 
 serve-number : (s : State) (k : ℕ) (f : Framing) (n : ℕ) → serve box s k f ≡ refused n → 1 ≤ n
 serve-number s k more n e = let z : 5 ≡ n = cc in omega arith
-serve-number s k closes n e = served-number k (close s 20) (readingsGood (s .readings)) n e
+serve-number s k closes n e = served-number k (close s CONNECTION_TERMINATED) (readingsGood (s .readings)) n e
 serve-number s k (whole m v rest) n e = served-number (9 + length m + length v) (respond box s v (reading box s m)) (readingsGood (s .readings)) n e
 
 -- no refusal has the number 0

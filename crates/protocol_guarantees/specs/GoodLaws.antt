@@ -26,6 +26,7 @@ use Rattle.store_layout.specs.declared.PutAnswer.{PutAnswer}
 use Rattle.store_layout.specs.declared.PutAnswer.the-variants.{Stored, Full, Unfit}
 use Rattle.log_readings.specs.Lent.{readingsGood}
 use Rattle.base_definitions.specs.Refusals.{STORE_BAD, DEVICE_BAD}
+use Rattle.protocol.specs.StatusCode.{NO_SUCH_HMAC_ALGORITHM, INVALID_REQUEST, CONNECTION_TERMINATED}
 use Rattle.protocol.specs.declared.Operation.{Operation}
 use Rattle.protocol.specs.declared.Operation.the-variants.{Security}
 use Rattle.protocol.specs.State.{State, table, accepted}
@@ -69,7 +70,7 @@ wanted-good : (w : ℕ) (acls : List Acl) → securityGood acls ≡ true → tab
 unfolding securityGood
 wanted-good w acls e = any-version w acls (both-snd (all aclRead acls) (tableGood (wanted 0 acls)) e)
 
-first-true : (t u : Bool) → _≡_ {A = ℕ} (cond t (cond u 0 15) 16) 0 → t ≡ true
+first-true : (t u : Bool) → _≡_ {A = ℕ} (cond t (cond u 0 NO_SUCH_HMAC_ALGORITHM) INVALID_REQUEST) 0 → t ≡ true
 first-true true u e = refl
 first-true false u e = absurd (omega (arith, e))
 
@@ -144,7 +145,7 @@ served-other k r false n e = let z : 7 ≡ n = cc in (λ y. omega arith, λ y. o
 
 serve-other : (s : State) (k : ℕ) (f : Framing) (n : ℕ) → serve box s k f ≡ refused n → Other n
 serve-other s k more n e = let z : 5 ≡ n = cc in (λ y. omega arith, λ y. omega arith)
-serve-other s k closes n e = served-other k (close s 20) (readingsGood (s .readings)) n e
+serve-other s k closes n e = served-other k (close s CONNECTION_TERMINATED) (readingsGood (s .readings)) n e
 serve-other s k (whole m v rest) n e = served-other (9 + length m + length v) (respond box s v (reading box s m)) (readingsGood (s .readings)) n e
 
 not-bad : (s : State) (room : ℕ) (xs : List ℕ) (n : ℕ) → storeGood (s .store) ≡ true → tableGood (table s) ≡ true → answers s room xs ≡ refused n → Other n
