@@ -12,11 +12,8 @@ use libc::STDOUT_FILENO;
 use program_words::part;
 use program_words::place_of;
 use program_words::unhex;
+use program_words::write;
 use program_words::write_hex;
-
-fn write(b: &[u8]) {
-    io::write_all(STDOUT_FILENO, b);
-}
 
 fn show_number(v: u64) {
     if signed(v) < 0 {

@@ -8,6 +8,7 @@
 //   rescue LENGTH LABEL    the rescue, with a report of so many bytes, each 255 before
 use libc::STDIN_FILENO;
 use libc::STDOUT_FILENO;
+use program_reply::text::sha1;
 use program_words::first;
 use program_words::number;
 use program_words::part;
@@ -15,23 +16,12 @@ use program_words::place_of;
 use program_words::rest;
 use program_words::unhex;
 use program_words::word;
+use program_words::write;
 use program_words::write_hex;
-use signature_sha1::Digest;
 use store_rescue::rule::Rescued;
 
 // Room for 129 blocks: one more than a store may have.
 type Room = [u8; 66048];
-
-fn write(b: &[u8]) {
-    io::write_all(STDOUT_FILENO, b);
-}
-
-fn sha1(b: &[u8]) {
-    if let Digest::Made(s) = signature_sha1::sha1(b) {
-        let d = signature_sha1::bytes(s);
-        write_hex(&d);
-    }
-}
 
 fn number_of(r: Rescued) -> u64 {
     match r {

@@ -101,6 +101,10 @@ pub fn unhex(s: &[u8], out: &mut [u8]) -> usize
     i
 }
 
+pub fn write(b: &[u8]) {
+    io::write_all(STDOUT_FILENO, b);
+}
+
 // Writes bytes in hex.
 pub fn write_hex(b: &[u8]) {
     let mut i = 0;

@@ -12,7 +12,7 @@ use Rattle.program_fields.proofs.+show+show_field.Lts-show_field as sho
 use Rattle.fields_rule.proofs.judge.Reads as judge-reads
 use Rattle.program_words.proofs.part.Reads as part-reads
 use Rattle.program_fields.proofs.show_plain.Reads as show-plain-reads
-use Rattle.program_fields.proofs.write.Reads as write-reads
+use Rattle.program_words.proofs.write.Reads as write-reads
 use Rattle.fields_wire_reader.proofs.next_of.Reads as next-of-reads
 use Rattle.fields_wire_reader.proofs.read_field.Reads as read-field-reads
 use Rattle.program_fields.proofs.+show+show_field.{statement}

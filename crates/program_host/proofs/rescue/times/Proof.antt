@@ -1,8 +1,8 @@
 use borrow.Author.Needs.{needs}
 use Prim.Native.Nat.{_≤_, _-_}
 use lib.ListN.{length}
-use Rattle.program_site.proofs.times.Statement.{statement}
-use Rattle.program_site.proofs.times.Tie as tie
+use Rattle.program_host.proofs.rescue.times.Statement.{statement}
+use Rattle.program_host.proofs.rescue.times.Tie as tie
 
 abbrev Inv-loop : tie.InvT-loop
 Inv-loop report b n₀ i₀ n i = (i ≤ length report) × (n ≤ i)

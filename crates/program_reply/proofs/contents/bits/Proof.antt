@@ -1,8 +1,8 @@
 use borrow.Author.Needs.{needs}
 use Prim.Native.Nat.{_≤_}
 use lib.ListN.{length}
-use Rattle.program_site.proofs.bits.Statement.{statement}
-use Rattle.program_site.proofs.bits.Tie as tie
+use Rattle.program_reply.proofs.contents.bits.Statement.{statement}
+use Rattle.program_reply.proofs.contents.bits.Tie as tie
 
 abbrev Inv-loop : tie.InvT-loop
 Inv-loop b i₀ i = i ≤ length b

@@ -1,8 +1,8 @@
 use borrow.Author.Needs.{needs}
 use Prim.Native.Nat.{_≤_, _-_}
 use lib.ListN.{length}
-use Rattle.program_site.proofs.text.Statement.{statement}
-use Rattle.program_site.proofs.text.Tie as tie
+use Rattle.program_reply.proofs.text.text.Statement.{statement}
+use Rattle.program_reply.proofs.text.text.Tie as tie
 
 abbrev Inv-loop : tie.InvT-loop
 Inv-loop b i₀ i = i ≤ length b

@@ -1,8 +1,8 @@
 use borrow.Author.Needs.{needs}
 use Prim.Native.Nat.{_≤_, _-_}
 use lib.ListN.{length}
-use Rattle.program_site.proofs.fields.Statement.{statement}
-use Rattle.program_site.proofs.fields.Tie as tie
+use Rattle.program_reply.proofs.contents.fields.Statement.{statement}
+use Rattle.program_reply.proofs.contents.fields.Tie as tie
 
 abbrev Inv-loop : tie.InvT-loop
 Inv-loop s at₀ at = at₀ ≤ at
