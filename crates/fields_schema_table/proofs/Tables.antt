@@ -19,5 +19,5 @@ off : (n : ℕ) (A : Type 0) (t : Table) → offs n A t → A × (Unlisted ≡ l
 off n A end x = (x, refl)
 off n A (row m r t) x = let i = off n (A × (n ≡ m → ⊥)) t x in (i .0 .0, rw (ne-eqb n m (i .0 .1)) (i .1))
 
-pub in-none : {k : Kind} (n : ℕ) (k' : Kind) → k ≡ k' → offs n (Unit {0}) (tableOf k') → Unlisted ≡ ruleOf k n
-in-none {k} n k' p h = rw p (off n (Unit {0}) (tableOf k') h .1)
+pub in-none : {k k' : Kind} (n : ℕ) → k ≡ k' → offs n (Unit {0}) (tableOf k') → Unlisted ≡ ruleOf k n
+in-none {k} {k'} n p h = rw p (off n (Unit {0}) (tableOf k') h .1)
