@@ -29,6 +29,7 @@ use Rattle.protocol.specs.Operation.{askedBy}
 use Rattle.protocol.specs.Judge.{Result, fails, bothThere, step4, step5, above, aboveLast, step6, step7, fault, step8, keyValueIn, permitted, step9}
 use Rattle.protocol.specs.Judge.{entryOf, visibleIn, shown, versionShown, versionRight, newEntry, putBy, put, deleteBy, setUp, step10, judge}
 use Rattle.protocol.specs.Passes.{Passes}
+use Rattle.protocol.specs.Onwards.{onwards}
 
 -- the result leaves the connection and the readings of s as they are
 record Keeps (s : State) (r : Result) : Type 0 where
@@ -85,14 +86,7 @@ step6-passed : (s : State) (q : ℕ) (next : Result) → aboveLast q (s .connect
 step6-passed s q next e = rw (eq-eqb (s .connection .number) (s .connection .number) refl, e)
 
 module _ (s : State) (a : access.Acl) (c : Command) (v : List ℕ) where
-  -- steps 7 to 10
-  abbrev onwards : ℕ → Asked → Result
-  onwards q o =
-      step7 (accepted s q) o (λ x.
-      step8 (accepted s q) (x .operation) (c .body) v
-      (step9 (accepted s q) a (x .permission) (c .body) (step10 (accepted s q) a (x .operation) (c .body) v)))
-
-  keeps-onwards : (q : ℕ) (o : Asked) → Keeps (accepted s q) (onwards q o)
+  keeps-onwards : (q : ℕ) (o : Asked) → Keeps (accepted s q) (onwards s a c v q o)
   keeps-onwards q (Request x) =
       keeps-choose (accepted s q) (eqb (fault (x .operation) (c .body) v) 0)
       (keeps-choose (accepted s q) (permitted a (s .connection .protected) (x .permission) (c .body))
@@ -102,19 +96,19 @@ module _ (s : State) (a : access.Acl) (c : Command) (v : List ℕ) where
 
   -- steps 4 to 6
   abbrev before : Option Header → Result
-  before o = step4 s o (λ h connection q. step5 s h (step6 s connection q (onwards q (askedBy (h .messageType)))))
+  before o = step4 s o (λ h connection q. step5 s h (step6 s connection q (onwards s a c v q (askedBy (h .messageType)))))
 
   abbrev between : Header → Option ℕ → Option ℕ → Result
-  between h i q = bothThere s h i q (λ h connection q. step5 s h (step6 s connection q (onwards q (askedBy (h .messageType)))))
+  between h i q = bothThere s h i q (λ h connection q. step5 s h (step6 s connection q (onwards s a c v q (askedBy (h .messageType)))))
 
   -- where steps 4 to 6 pass, the result is that of steps 7 to 10
-  pub passed-on : (q : ℕ) (p : Passes s c q) → judge s a c v ≡ onwards q (askedBy (p .header .messageType))
+  pub passed-on : (q : ℕ) (p : Passes s c q) → judge s a c v ≡ onwards s a c v q (askedBy (p .header .messageType))
   unfolding judge
   passed-on q p =
       let h = p .header in
       let n = s .connection .number in
       ap before (p .there) ∙ ap (λ i. between h i (h .sequence)) (p .connection) ∙ ap (λ z. between h (some n) z) (p .sequence)
-      ∙ step5-passed s h (step6 s n q (onwards q (askedBy (h .messageType)))) (p .version) ∙ step6-passed s q (onwards q (askedBy (h .messageType))) (p .later)
+      ∙ step5-passed s h (step6 s n q (onwards s a c v q (askedBy (h .messageType)))) (p .version) ∙ step6-passed s q (onwards s a c v q (askedBy (h .messageType))) (p .later)
 
   -- THE SEQUENCE COUNTS: whatever comes of steps 7 to 10
   pub counted : (q : ℕ) → Passes s c q → judge s a c v .state .connection ≡ withSequence (s .connection) q
@@ -127,7 +121,7 @@ module _ (s : State) (a : access.Acl) (c : Command) (v : List ℕ) where
     where
       last : (h : Header) (i q : ℕ) → c .header ≡ some h → h .connectionID ≡ some i → h .sequence ≡ some q → (t u w : Bool)
           → eqb (h .clusterVersion) (table s .clusterVersion) ≡ t → eqb i (s .connection .number) ≡ u → aboveLast q (s .connection .last) ≡ w
-          → (x y : Result) → x .state ≡ s → y .state ≡ s → cond t (cond (u && w) (onwards q (askedBy (h .messageType))) x) y .state ≡ s
+          → (x y : Result) → x .state ≡ s → y .state ≡ s → cond t (cond (u && w) (onwards s a c v q (askedBy (h .messageType))) x) y .state ≡ s
       last h i q p ic iq false u w et eu ew x y hx hy = hy
       last h i q p ic iq true false w et eu ew x y hx hy = hx
       last h i q p ic iq true true false et eu ew x y hx hy = hx
@@ -168,7 +162,7 @@ module _ (s : State) (a : access.Acl) (c : Command) (v : List ℕ) where
       both-there h (some i) none = refl
       both-there h (some i) (some q) =
           last (eqb (h .clusterVersion) (table s .clusterVersion)) (eqb i (s .connection .number) && aboveLast q (s .connection .last))
-          (onwards q (askedBy (h .messageType))) (fails s INVALID_REQUEST) (fails s VERSION_FAILURE) (keeps-onwards q (askedBy (h .messageType)) .read) refl refl
+          (onwards s a c v q (askedBy (h .messageType))) (fails s INVALID_REQUEST) (fails s VERSION_FAILURE) (keeps-onwards q (askedBy (h .messageType)) .read) refl refl
 
       go : (o : Option Header) → before o .state .readings ≡ s .readings
       go none = refl

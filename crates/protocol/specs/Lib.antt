@@ -50,6 +50,7 @@ pub mod CallRefusalLaws
 pub mod HmacFailureLaws
 pub mod AlgorithmLaws
 pub mod Passes
+pub mod Onwards
 pub mod AcceptedLaws
 pub mod Three
 pub mod VisibleLaws

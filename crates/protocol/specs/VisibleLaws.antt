@@ -37,6 +37,7 @@ use Rattle.protocol.specs.Command.{Header, Range, Body, Command}
 use Rattle.protocol.specs.Operation.{asked, askedIn, askedBy}
 use Rattle.protocol.specs.Judge.{Result, range, fails, succeeds, bothThere, step4, step5, aboveLast, step6, step7, present, rangeGood, broken, fault, step8, keyValueIn, rangeIn, step9, visible, visibleIn, shown, inRange, keysIn, keysOf, step10, judge}
 use Rattle.protocol.specs.Passes.{Passes}
+use Rattle.protocol.specs.Onwards.{onwards}
 use Rattle.protocol.specs.AcceptedLaws.{passed-on}
 use Rattle.protocol.specs.Three.{Three, next, previous, keyRange}
 
@@ -265,20 +266,13 @@ three-code previous s a b v e = shown-code s (keyValueIn b .metadataOnly) (previ
 three-code keyRange s a b v e = omega arith
 
 module _ (s : State) (a : access.Acl) (c : Command) (v : List ℕ) where
-  -- steps 7 to 10
-  abbrev onwards : ℕ → Asked → Result
-  onwards q o =
-      step7 (accepted s q) o (λ x.
-      step8 (accepted s q) (x .operation) (c .body) v
-      (step9 (accepted s q) a (x .permission) (c .body) (step10 (accepted s q) a (x .operation) (c .body) v)))
-
   module _ (q : ℕ) (passes : Passes s c q) (n : ℕ) (o : Operation) (p : ℕ) (three : Three n o p) (type : passes .header .messageType ≡ some n)
       (good : fault o (c .body) v ≡ 0) where
     -- past step 8 the scopes alone decide whether the operation is reached
     pub three-judged : judge s a c v
         ≡ cond (permitsAny a (s .connection .protected) p) (step10 (accepted s q) a o (c .body) v) (fails (accepted s q) NOT_AUTHORIZED)
     three-judged =
-        passed-on s a c v q passes ∙ ap (λ m. onwards q (askedBy m)) type ∙ ap (onwards q) (asked-three three)
+        passed-on s a c v q passes ∙ ap (λ m. onwards s a c v q (askedBy m)) type ∙ ap (onwards s a c v q) (asked-three three)
         ∙ ap (λ (x : ℕ). cond (eqb x 0) (step9 (accepted s q) a (Any p) (c .body) (step10 (accepted s q) a o (c .body) v)) (fails (accepted s q) x)) good
 
     pub three-authorized : (judge s a c v .code ≡ NOT_AUTHORIZED → permitsAny a (s .connection .protected) p ≡ false)
@@ -297,7 +291,7 @@ module _ (s : State) (a : access.Acl) (c : Command) (v : List ℕ) where
   unfolding judge
   range-never-missing h there type e =
       both-there (h .connectionID) (h .sequence)
-      (sym (ap (λ o. step4 s o (λ h connection q. step5 s h (step6 s connection q (onwards q (askedBy (h .messageType))))) .code) there) ∙ e)
+      (sym (ap (λ o. step4 s o (λ h connection q. step5 s h (step6 s connection q (onwards s a c v q (askedBy (h .messageType))))) .code) there) ∙ e)
     where
       late : (x y : Bool) (q : ℕ)
           → cond (eqb (broken x) 0) (cond y (step10 (accepted s q) a GetKeyRange (c .body) v) (fails (accepted s q) NOT_AUTHORIZED)) (fails (accepted s q) (broken x)) .code ≡ NOT_FOUND → ⊥
@@ -305,14 +299,14 @@ module _ (s : State) (a : access.Acl) (c : Command) (v : List ℕ) where
       late true false q e = omega arith
       late false y q e = omega arith
 
-      early : (x y : Bool) (q : ℕ) → cond x (cond y (onwards q (askedBy (h .messageType))) (fails s INVALID_REQUEST)) (fails s VERSION_FAILURE) .code ≡ NOT_FOUND → ⊥
+      early : (x y : Bool) (q : ℕ) → cond x (cond y (onwards s a c v q (askedBy (h .messageType))) (fails s INVALID_REQUEST)) (fails s VERSION_FAILURE) .code ≡ NOT_FOUND → ⊥
       early true true q e =
           late (isEmpty v && present rangeGood (c .body .range)) (permitsAny a (s .connection .protected) RANGE) q
-          (sym (ap (λ o. onwards q o .code) (ap askedBy type ∙ asked-three keyRange)) ∙ e)
+          (sym (ap (λ o. onwards s a c v q o .code) (ap askedBy type ∙ asked-three keyRange)) ∙ e)
       early true false q e = omega arith
       early false y q e = omega arith
 
-      both-there : (i q : Option ℕ) → bothThere s h i q (λ h connection q. step5 s h (step6 s connection q (onwards q (askedBy (h .messageType))))) .code ≡ NOT_FOUND → ⊥
+      both-there : (i q : Option ℕ) → bothThere s h i q (λ h connection q. step5 s h (step6 s connection q (onwards s a c v q (askedBy (h .messageType))))) .code ≡ NOT_FOUND → ⊥
       both-there (some i) (some q) e = early (eqb (h .clusterVersion) (table s .clusterVersion)) (eqb i (s .connection .number) && aboveLast q (s .connection .last)) q e
       both-there (some i) none e = omega arith
       both-there none q e = omega arith

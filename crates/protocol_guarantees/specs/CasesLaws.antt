@@ -26,7 +26,7 @@ use Rattle.protocol.specs.declared.Operation.the-variants.{Noop, Get, GetVersio
 use Rattle.protocol.specs.declared.Choice.{Choice}
 use Rattle.protocol.specs.declared.Asked.{Asked}
 use Rattle.protocol.specs.declared.Asked.the-variants.{Request, NotBuilt}
-use Rattle.protocol.specs.StatusCode.{SUCCESS, NOT_FOUND, NO_SPACE, NO_SUCH_HMAC_ALGORITHM, INVALID_REQUEST, CONNECTION_TERMINATED}
+use Rattle.protocol.specs.StatusCode.{SUCCESS, NOT_AUTHORIZED, VERSION_FAILURE, NOT_FOUND, NO_SPACE, NO_SUCH_HMAC_ALGORITHM, INVALID_REQUEST, CONNECTION_TERMINATED}
 use Rattle.protocol.specs.State.{State, table, accepted, closing}
 use Rattle.protocol.specs.Command.{Header, Body, Command, commandOf}
 use Rattle.protocol.specs.Operation.{askedBy}
@@ -35,6 +35,7 @@ use Rattle.protocol.specs.Reading as reads
 use Rattle.protocol.specs.Reading.{Reading, undecodable, read}
 use Rattle.protocol.specs.Judge.{Result, fails, bothThere, step4, step5, aboveLast, step6, step7, fault, step8, keyValueIn, permitted, step9, entryOf, visibleIn, shown, versionShown, versionRight, newEntry, changed, putBy, put, deleteBy, setUp, step10, judge}
 use Rattle.protocol.specs.Passes.{Passes}
+use Rattle.protocol.specs.Onwards.{onwards}
 use Rattle.protocol.specs.FaultCode.{FaultCode, nothing, no-algorithm, invalid}
 use Rattle.protocol.specs.FaultLaws.{fault-code}
 use Rattle.protocol.specs.Answer.{Reply, reply, Outcome, refused, answered, taking, unlessRefused, reading, respond, serve, answer}
@@ -121,19 +122,14 @@ module _ (s : State) (a : access.Acl) (c : Command) (v : List ℕ) where
   faulty q g x no-algorithm f = late q g NO_SUCH_HMAC_ALGORITHM (λ e. omega arith) (λ e. omega arith)
   faulty q g x invalid f = late q g INVALID_REQUEST (λ e. omega arith) (λ e. omega arith)
 
-  abbrev onwards : ℕ → Asked → Result
-  onwards q o =
-      step7 (accepted s q) o (λ x.
-      step8 (accepted s q) (x .operation) (c .body) v (step9 (accepted s q) a (x .permission) (c .body) (step10 (accepted s q) a (x .operation) (c .body) v)))
-
-  asked-by : (q : ℕ) (o : Asked) → Passes s c q → askedBy (typeOf (c .header)) ≡ o → Judged s a c v (onwards q o)
+  asked-by : (q : ℕ) (o : Asked) → Passes s c q → askedBy (typeOf (c .header)) ≡ o → Judged s a c v (onwards s a c v q o)
   asked-by q (Request x) g e =
       faulty q g (step9 (accepted s q) a (x .permission) (c .body) (step10 (accepted s q) a (x .operation) (c .body) v)) (fault-code (x .operation) (c .body) v) (λ f.
-      chosen (permitted a (s .connection .protected) (x .permission) (c .body)) (step10 (accepted s q) a (x .operation) (c .body) v) (fails (accepted s q) 3) (λ p. obeyed g e f p) (late q g 3 (λ e. omega arith) (λ e. omega arith)))
+      chosen (permitted a (s .connection .protected) (x .permission) (c .body)) (step10 (accepted s q) a (x .operation) (c .body) v) (fails (accepted s q) NOT_AUTHORIZED) (λ p. obeyed g e f p) (late q g NOT_AUTHORIZED (λ e. omega arith) (λ e. omega arith)))
   asked-by q NotBuilt g e = late q g INVALID_REQUEST (λ e. omega arith) (λ e. omega arith)
 
   both-there : (h : Header) (i q : Option ℕ) → c .header ≡ some h → h .connectionID ≡ i → h .sequence ≡ q
-      → Judged s a c v (bothThere s h i q (λ h connection q. step5 s h (step6 s connection q (onwards q (askedBy (h .messageType))))))
+      → Judged s a c v (bothThere s h i q (λ h connection q. step5 s h (step6 s connection q (onwards s a c v q (askedBy (h .messageType))))))
   both-there h (some i) (some q) e ei eq =
       chosen (eqb (h .clusterVersion) (table s .clusterVersion)) _ _
       (λ z. chosen (eqb i (s .connection .number) && aboveLast q (s .connection .last)) _ _
@@ -155,7 +151,7 @@ module _ (s : State) (a : access.Acl) (c : Command) (v : List ℕ) where
   unfolding judge
   judge-cases = go (c .header) refl
     where
-      go : (o : Option Header) → c .header ≡ o → Judged s a c v (step4 s o (λ h connection q. step5 s h (step6 s connection q (onwards q (askedBy (h .messageType))))))
+      go : (o : Option Header) → c .header ≡ o → Judged s a c v (step4 s o (λ h connection q. step5 s h (step6 s connection q (onwards s a c v q (askedBy (h .messageType))))))
       go none e = early 6 (λ e. omega arith) (λ e. omega arith)
       go (some h) e = both-there h (h .connectionID) (h .sequence) e refl refl
 
@@ -173,12 +169,12 @@ judge-obeys s a c v q x p e f m =
     ap (λ x. step4 s x (λ h connection q. step5 s h (step6 s connection q (onwards s a c v q (askedBy (h .messageType)))))) (p .there)
     ∙ ap (λ i. bothThere s h i (h .sequence) (λ h connection q. step5 s h (step6 s connection q (onwards s a c v q (askedBy (h .messageType)))))) (p .connection)
     ∙ ap (λ z. bothThere s h (some n) z (λ h connection q. step5 s h (step6 s connection q (onwards s a c v q (askedBy (h .messageType)))))) (p .sequence)
-    ∙ ap (λ (t : Bool). cond t (step6 s n q (onwards s a c v q (askedBy (h .messageType)))) (fails s 4)) (eq-eqb (h .clusterVersion) (table s .clusterVersion) (p .version))
+    ∙ ap (λ (t : Bool). cond t (step6 s n q (onwards s a c v q (askedBy (h .messageType)))) (fails s VERSION_FAILURE)) (eq-eqb (h .clusterVersion) (table s .clusterVersion) (p .version))
     ∙ ap (λ (t : Bool). cond (t && aboveLast q (s .connection .last)) (onwards s a c v q (askedBy (h .messageType))) (fails s INVALID_REQUEST)) (eq-eqb n n refl)
     ∙ ap (λ (t : Bool). cond t (onwards s a c v q (askedBy (h .messageType))) (fails s INVALID_REQUEST)) (p .later)
     ∙ ap (onwards s a c v q) asked
     ∙ ap (λ (x : ℕ). cond (eqb x 0) permit (fails (accepted s q) x)) f
-    ∙ ap (λ (t : Bool). cond t next (fails (accepted s q) 3)) m
+    ∙ ap (λ (t : Bool). cond t next (fails (accepted s q) NOT_AUTHORIZED)) m
 
 -- ---- an answered call
 
