@@ -325,8 +325,8 @@ int main(void) {
                 closed = {.name = "refused: CLOSED", .refusal = 4, .closed = 1}, unsigned_ = {.name = "unsigned: closing reply"};
     prepare();
     fill(ONE_TIMER);
-    put_of(&put.told, 63); /* found in seven halvings, half-way along a walk */
-    get_of(&get.told, 63);
+    put_of(&put.told, 64);
+    get_of(&get.told, 64);
     range_of(&range.told, 64);
     log_of(&log.told);
     framed(&put.input, &put.told, 1, sizeof value);

@@ -1,6 +1,5 @@
-/* The store of document 01, "Blocks", with the search of change request 8, in plain C: the other side of the measurements in store_bench.c. */
+/* The store of document 01, "Blocks", in plain C: the other side of the measurements in store_bench.c. */
 #include "store.h"
-#include <stdlib.h>
 #include <string.h>
 
 static uint32_t block_sum(const uint8_t *b) {
@@ -48,24 +47,19 @@ int c_check(const uint8_t *s, size_t len) {
     return 1;
 }
 
-/* The place of a key, or where it would go; *found says which. All blocks are halved: a blank one lies above every key. */
+/* The place of a key, or where it would go; *found says which. */
 static size_t place(const uint8_t *s, size_t len, const uint8_t *key, size_t n, int *found) {
-    size_t low = 0, high = len / 512;
+    size_t i = 0;
     *found = 0;
-    while (low < high) {
-        size_t m = low + (high - low) / 2;
-        const uint8_t *b = s + m * 512;
-        int c = b[0] ? key_order(key, n, b + 8, b[1]) : -1;
-        if (c == 0) {
-            *found = 1;
-            return m;
+    for (; i * 512 < len && s[i * 512]; i++) {
+        const uint8_t *b = s + i * 512;
+        int c = key_order(key, n, b + 8, b[1]);
+        if (c <= 0) {
+            *found = c == 0;
+            break;
         }
-        if (c < 0)
-            high = m;
-        else
-            low = m + 1;
     }
-    return low;
+    return i;
 }
 
 size_t c_find(const uint8_t *s, size_t len, const uint8_t *key, size_t n) {
@@ -73,42 +67,10 @@ size_t c_find(const uint8_t *s, size_t len, const uint8_t *key, size_t n) {
     return place(s, len, key, n, &found);
 }
 
-size_t c_walk(const uint8_t *s, size_t len, const uint8_t *key, size_t n) {
-    size_t i = 0;
-    while (i * 512 < len && s[i * 512] && key_order(key, n, s + i * 512 + 8, s[i * 512 + 1]) > 0) i++;
-    return i;
-}
-
-struct sought {
-    const uint8_t *key;
-    size_t n;
-};
-
-static int sought_order(const void *sought, const void *block) {
-    const struct sought *k = sought;
-    const uint8_t *b = block;
-    return key_order(k->key, k->n, b + 8, b[1]);
-}
-
-/* It does not look for the end of the entries: len is that of the used blocks alone, which the caller knows beforehand.
-   Of a missing key bsearch has no place. glibc's header has its text, so that clang -O3 compiles it in, with the comparison. */
-size_t c_bsearch(const uint8_t *s, size_t len, const uint8_t *key, size_t n) {
-    struct sought k = {key, n};
-    const uint8_t *b = bsearch(&k, s, len / 512, 512, sought_order);
-    return b ? (size_t)(b - s) / 512 : SIZE_MAX;
-}
-
-/* How many blocks are used: those before the first blank one, found by halving too. */
 static size_t used(const uint8_t *s, size_t len) {
-    size_t low = 0, high = len / 512;
-    while (low < high) {
-        size_t m = low + (high - low) / 2;
-        if (s[m * 512])
-            low = m + 1;
-        else
-            high = m;
-    }
-    return low;
+    size_t i = 0;
+    while (i * 512 < len && s[i * 512]) i++;
+    return i;
 }
 
 uint32_t c_put(uint8_t *s, size_t len, const uint8_t *key, size_t kn, const uint8_t *version, size_t vn,

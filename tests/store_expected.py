@@ -1,9 +1,6 @@
 #!/usr/bin/env python3
-"""The output that crates/program_store must write, computed from the table of document 01, "Blocks", and from change request 8 alone."""
-import bisect
+"""The output that crates/program_store must write, computed from the table of document 01, "Blocks", alone."""
 import zlib
-
-BLOCKS, ENTRIES = (1, 2, 127, 128), (0, 1, 2, 3, 64, 127, 128)
 
 
 def block(key, version, tag, value, algorithm):
@@ -24,45 +21,6 @@ def entry(n):
 
 def key(n):
     return bytes([107] * (n % 64) + [n % 256])
-
-
-def halved(keys, blocks, sought):
-    """Where the key is or would go, whether it is there, and the number of halvings.
-
-    In question are at first all blocks, blank ones too. A halving is one block looked at, that in the middle (of an even number the upper of the two):
-    it is the key's, or leaves those on one side of it, at most half. A blank block is above every key. The halving that finds the key is counted.
-    """
-    question, halvings, place = range(blocks), 0, None
-    while question and place is None:
-        middle = len(question) // 2
-        block = question[middle]
-        halvings += 1
-        if block < len(keys) and keys[block] == sought:
-            place = block
-        below = block >= len(keys) or sought < keys[block]
-        left = question[:middle] if below else question[middle + 1 :]
-        assert 2 * len(left) <= len(question)
-        question = left
-    assert halvings <= 8
-    found = place is not None
-    return (place if found else question.start), found, halvings
-
-
-def searches():
-    """A line for each store whose entries fit its blocks, and one with the greatest number of halvings."""
-    most = 0
-    for blocks in BLOCKS:
-        for entries in (entries for entries in ENTRIES if entries <= blocks):
-            keys = [number.to_bytes(2, "big") for number in range(1, 2 * entries, 2)]
-            tokens = []
-            for number in range(2 * entries + 1):
-                sought = number.to_bytes(2, "big")
-                place, found, halvings = halved(keys, blocks, sought)
-                assert (place, found) == (bisect.bisect_left(keys, sought), sought in keys)
-                tokens.append(f"{'@' if found else '^'}{place}:{halvings}")
-                most = max(most, halvings)
-            print("find ", blocks, entries, *tokens, "agree")
-    print("most", most)
 
 
 def main():
@@ -99,7 +57,6 @@ def main():
         read(n)
     show("again", 300, put(300), store_bytes(entries))
     read(5, good=False)  # byte 512 is 2 now
-    searches()
 
 
 main()

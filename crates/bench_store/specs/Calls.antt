@@ -1,12 +1,16 @@
 -- What the calls for the measurements say and leave: of a bad store a number of its own, and the store as it was.
-use Rattle.std.specs.Prelude.{cond, List, ℕ}
+use Rattle.std.specs.Prelude.{cond, List, ℕ, ◌-◌, ◌^◌}
 use Rattle.store_block.specs.Entry.{Entry}
 use Rattle.store_layout.specs.declared.PutAnswer.{PutAnswer}
 use Rattle.store_layout.specs.declared.PutAnswer.TheVariants.{Stored, Full, Unfit}
 use Rattle.store_layout.specs.declared.DeleteAnswer.{DeleteAnswer}
 use Rattle.store_layout.specs.declared.DeleteAnswer.TheVariants.{Deleted, Missing}
-use Rattle.store_layout.specs.Store.{store_good}
-use Rattle.store_layout.specs.Entries.{put_answer, put_store, delete_answer, delete_store}
+use Rattle.store_layout.specs.Store.{entries_of, store_good}
+use Rattle.store_layout.specs.Entries.{find_in, place_of, put_answer, put_store, delete_answer, delete_store}
+
+-- the place of a key, or the one where it would go
+abbrev pub find_of : List ℕ → List ℕ → ℕ
+find_of l k = cond (store_good l) (place_of (find_in k (entries_of l))) (2 ^ 64 - 1)
 
 -- a number, and the store afterwards
 pub record Left : Type 0 where

@@ -1,17 +1,18 @@
 -- The ways through each call.
-use Rattle.std.specs.Prelude.{◌≡◌, refl, Bool, true, false, cond, List, ℕ, ◌≤◌, leb, length}
+use Rattle.std.specs.Prelude.{◌≡◌, refl, Bool, true, false, cond, List, ℕ, ◌-◌, ◌^◌, ◌≤◌, leb, length}
 use Rattle.std.proofs.Common.{sym, ap, ap₂, ◌∙◌, arith, leb-true, leb-false}
 use Rattle.store_block.specs.Decides.{Decides}
 use Rattle.store_block.specs.DecidesLaws.{says-yes, says-no}
 use Rattle.store_block.specs.Entry.{Entry, entry, Sized}
 use Rattle.store_block.specs.BlockLaws.{sized}
+use Rattle.store_layout.specs.declared.KeyPlace.{KeyPlace}
 use Rattle.store_layout.specs.declared.PutAnswer.{PutAnswer}
 use Rattle.store_layout.specs.declared.DeleteAnswer.{DeleteAnswer}
-use Rattle.store_layout.specs.Store.{store_good, Good}
+use Rattle.store_layout.specs.Store.{entries_of, store_good, Good}
 use Rattle.store_layout.specs.CheckLaws.{store-decides}
-use Rattle.store_layout.specs.Entries.{put_answer, put_store, delete_answer, delete_store}
+use Rattle.store_layout.specs.Entries.{Sought, find_in, place_of, put_answer, put_store, delete_answer, delete_store}
 use Rattle.store_write.specs.ChangeLaws.{unfit}
-use Rattle.bench_store.specs.Calls.{left, put_number, delete_number, put_of, delete_of}
+use Rattle.bench_store.specs.Calls.{find_of, left, put_number, delete_number, put_of, delete_of}
 
 -- ---- room for the parts
 pub room : {k v t w : List ℕ} {a : ℕ} → length k ≤ 64 → length v ≤ 16 → length t ≤ 32 → Decides (leb (length w) 384) (Sized (entry k v t w a))
@@ -27,6 +28,13 @@ module _ (l : List ℕ) where
 
   chosen : {A : Type 0} (x y : A) {b : Bool} → store_good l ≡ b → cond b x y ≡ cond (store_good l) x y
   chosen x y h = sym (ap (λ (b : Bool). cond b x y) h)
+
+  -- ---- find
+  pub not-searched : (k : List ℕ) → store_good l ≡ false → 2 ^ 64 - 1 ≡ find_of l k
+  not-searched k h = chosen (place_of (find_in k (entries_of l))) (2 ^ 64 - 1) h
+
+  pub searched : (k : List ℕ) → store_good l ≡ true → {r : KeyPlace} → Sought l k r → (x : KeyPlace) → r ≡ x → place_of x ≡ find_of l k
+  searched k h s x e = ap place_of (sym e ∙ s.same (good-store h)) ∙ chosen (place_of (find_in k (entries_of l))) (2 ^ 64 - 1) h
 
   -- ---- put
   module _ (e : Entry) where

@@ -1,11 +1,9 @@
-// The store's calls under C names, for the measurements in bench/ alone: no host links them. Put and delete check the store first.
+// The store's calls under C names, for the measurements in bench/ alone: no host links them. Each but the check itself checks the store first.
 ghost use Rattle.std.specs.Prelude.{◌≡◌, ℕ};
 ghost use Rattle.store_block.specs.Decides.{Decides};
 ghost use Rattle.store_block.specs.Entry.{entry, Sized};
 ghost use Rattle.store_layout.specs.Store.{store_good};
-ghost use Rattle.store_layout.specs.Entries.{place_of};
-ghost use Rattle.store_layout.specs.Search.{search_in, walk_in};
-ghost use Rattle.bench_store.specs.Calls.{left, put_of, delete_of};
+ghost use Rattle.bench_store.specs.Calls.{find_of, left, put_of, delete_of};
 
 use store_layout::{DeleteAnswer, KeyPlace, PutAnswer};
 
@@ -16,31 +14,18 @@ pub extern "C" fn rt_check(store: &[u8]) -> bool
     store_check::check(store)
 }
 
-fn number_of(place: KeyPlace) -> usize
-    ensures { result ≡ place_of place }
+// The place of a key, or where it would go; 2^64 - 1 of a bad store.
+#[unsafe(no_mangle)]
+pub extern "C" fn rt_find(store: &[u8], key: &[u8]) -> usize
+    ensures { result ≡ find_of store.now key.now }
 {
-    match place {
+    if !store_check::check(store) {
+        return 18446744073709551615;
+    }
+    match store_find::find(store, key) {
         KeyPlace::At(i) => i,
         KeyPlace::Gap(i) => i,
     }
-}
-
-// The place of a key, or where it would go, by halving.
-#[unsafe(no_mangle)]
-pub extern "C" fn rt_search(store: &[u8], key: &[u8]) -> usize
-    ensures { result ≡ place_of (search_in store.now key.now).place }
-{
-    let found = store_find::search(store, key);
-    let place = found.place;
-    number_of(place)
-}
-
-// The same by a walk.
-#[unsafe(no_mangle)]
-pub extern "C" fn rt_walk(store: &[u8], key: &[u8]) -> usize
-    ensures { result ≡ place_of (walk_in store.now key.now) }
-{
-    number_of(store_walk::walk(store, key))
 }
 
 // Whether the parts have room in a block.
@@ -78,8 +63,7 @@ pub extern "C" fn rt_put(
     if !sized(key, version, tag, value) {
         return 2;
     }
-    let place = store_find::find(store, key);
-    match store_write::put::put(store, place, key, version, tag, value, algorithm) {
+    match store_write::put::put(store, key, version, tag, value, algorithm) {
         PutAnswer::Stored => 0,
         PutAnswer::Full => 1,
         PutAnswer::Unfit => 2,
@@ -94,8 +78,7 @@ pub extern "C" fn rt_delete(store: &mut [u8], key: &[u8]) -> u32
     if !store_check::check(store) {
         return 3;
     }
-    let place = store_find::find(store, key);
-    match store_write::delete::delete(store, place) {
+    match store_write::delete::delete(store, key) {
         DeleteAnswer::Deleted => 0,
         DeleteAnswer::Missing => 1,
     }

@@ -1,17 +1,16 @@
 -- Laws of versions.
-use Rattle.std.specs.Prelude.{◌≡◌, refl, Bool, true, false, cond, ◌||◌, List, [], ◌∷◌, ℕ, eqb, length, get_or}
+use Rattle.std.specs.Prelude.{◌≡◌, refl, Bool, true, false, cond, ◌||◌, List, [], ◌∷◌, ℕ, eqb, length}
 use Rattle.std.proofs.Common.{sym, ap, ◌∙◌, arith, ne_eqb}
 use Rattle.std.proofs.Math.Option.{Option, none, some}
 use Rattle.base_definitions.specs.Lists.{same_bytes}
-use Rattle.store_block.specs.Entry.{Entry, no_entry}
-use Rattle.store_layout.specs.declared.KeyPlace.{KeyPlace}
-use Rattle.store_layout.specs.declared.KeyPlace.TheVariants.{At, Gap}
+use Rattle.store_block.specs.Entry.{Entry}
 use Rattle.store_layout.specs.declared.Parts.{Parts}
-use Rattle.store_layout.specs.Store.{entries_of, Good}
-use Rattle.store_layout.specs.Entries.{find_in, EntryAt, part_of}
+use Rattle.store_layout.specs.Entries.{part_of}
 use Rattle.protocol.specs.State.{State}
-use Rattle.protocol.specs.Judge.{version_of, entry_at, entry_of}
-use Rattle.operation_put.specs.declared.version.Version.{Version}
+use Rattle.protocol.specs.Judge.{version_of}
+use Rattle.operation_get.specs.declared.Shown.{Shown}
+use Rattle.operation_get.specs.declared.Shown.TheVariants.{Found, Missing}
+use Rattle.operation_get.specs.Shown.{entry_shown, Showing}
 use Rattle.operation_put.specs.declared.version.Version.TheVariants.{Same, Other, Absent}
 use Rattle.operation_put.specs.VersionFound.{version_found, version_fits}
 
@@ -32,17 +31,12 @@ version-fits old false (some e) = go (same_bytes old e.version)
     go true = refl
     go false = refl
 
--- how a version stands to that of the entry at a place
-module _ (old l : List ℕ) (p : KeyPlace) (s : State) (q : s.store ≡ l) where
-  pub version-at : (i : ℕ) → p ≡ At i → Good l → {e : Parts} → EntryAt l i e → (b : Bool) → b ≡ same_bytes old (part_of l e.version) → cond b Same Other ≡ version_found old (entry_at s p)
-  version-at i h g {e} t b c =
-      ap (λ (b : Bool). cond b Same Other) (c ∙ ap (λ (x : Entry). same_bytes old x.version) (t.same g))
-      ∙ ap (λ (m : List ℕ). version_found old (some (get_or (entries_of m) i no_entry))) (sym q)
-      ∙ ap (λ (p : KeyPlace). version_found old (entry_at s p)) (sym h)
+-- how a version stands to that of the entry that was found
+pub version-found : (old : List ℕ) {l : List ℕ} {r : Shown} {of : State → Option Entry} {p : Parts} → Showing l r of → r ≡ Found p
+    → (b : Bool) → b ≡ same_bytes old (part_of l p.version) → (s : State) → s.store ≡ l → cond b Same Other ≡ version_found old (of s)
+version-found old {l} h e b c s q =
+    ap (λ (b : Bool). cond b Same Other) c ∙ ap (λ (r : Shown). version_found old (entry_shown l r)) (sym e) ∙ ap (version_found old) (h.same s q)
 
-  pub version-none : (i : ℕ) → p ≡ Gap i → Absent ≡ version_found old (entry_at s p)
-  version-none i h = ap (λ (p : KeyPlace). version_found old (entry_at s p)) (sym h)
-
-  -- the place that a search for a key found shows the entry under that key
-  pub version_of_lem : (k : List ℕ) → p ≡ find_in k (entries_of l) → {w : Version} → w ≡ version_found old (entry_at s p) → w ≡ version_found old (entry_of s k)
-  version_of_lem k h c = c ∙ ap (λ (p : KeyPlace). version_found old (entry_at s p)) (h ∙ ap (λ (m : List ℕ). find_in k (entries_of m)) (sym q))
+pub version-none : (old : List ℕ) {l : List ℕ} {r : Shown} {of : State → Option Entry} → Showing l r of → r ≡ Missing
+    → (s : State) → s.store ≡ l → Absent ≡ version_found old (of s)
+version-none old {l} h e s q = ap (λ (r : Shown). version_found old (entry_shown l r)) (sym e) ∙ ap (version_found old) (h.same s q)

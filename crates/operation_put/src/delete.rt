@@ -8,7 +8,6 @@ ghost use Rattle.operation_put.specs.DeleteCode.{delete_code, Deletes};
 
 use crate::version::{Version, compare_version};
 use protocol::status::{NOT_FOUND, SUCCESS, VERSION_MISMATCH};
-use store_find::find;
 
 fn delete_code(v: Version, force: bool) -> u64
     ensures { result ≡ delete_code v force }
@@ -29,11 +28,10 @@ pub fn delete(store: &mut [u8], key: &[u8], old: &[u8], force: bool) -> u64
     ensures { (k : KeyValue) → Deletes k key.now old.now force →
         Changed (λ s. delete_by s k (entry_of s k.key)) result store.old store.new }
 {
-    let place = find(store, key);
-    let code = delete_code(compare_version(store, place, old), force);
+    let code = delete_code(compare_version(store, key, old), force);
     if code != SUCCESS {
         return code;
     }
-    store_write::delete::delete(store, place);
+    store_write::delete::delete(store, key);
     SUCCESS
 }

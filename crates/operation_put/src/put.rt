@@ -8,7 +8,6 @@ ghost use Rattle.operation_put.specs.PutCode.{put_code, Puts, Changed};
 
 use crate::version::{compare_version, version_fits};
 use protocol::status::{INVALID_REQUEST, NO_SPACE, SUCCESS, VERSION_MISMATCH};
-use store_find::find;
 use store_layout::PutAnswer;
 
 fn put_code(a: PutAnswer) -> u64
@@ -36,9 +35,8 @@ pub fn put(
     ensures { (k : KeyValue) → Puts k key.now new.now old.now tag.now algorithm force →
         Changed (λ s. put s k value.now) result store.old store.new }
 {
-    let place = find(store, key);
-    if !version_fits(compare_version(store, place, old), old, force) {
+    if !version_fits(compare_version(store, key, old), old, force) {
         return VERSION_MISMATCH;
     }
-    put_code(store_write::put::put(store, place, key, new, tag, value, algorithm))
+    put_code(store_write::put::put(store, key, new, tag, value, algorithm))
 }

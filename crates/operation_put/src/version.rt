@@ -2,14 +2,13 @@
 ghost use Rattle.std.specs.Prelude.{◌≡◌};
 ghost use Rattle.store_layout.specs.Store.{Good};
 ghost use Rattle.protocol.specs.State.{State};
-ghost use Rattle.protocol.specs.Judge.{entry_at};
+ghost use Rattle.protocol.specs.Judge.{entry_of};
 ghost use Rattle.operation_put.specs.VersionFound.{version_found, version_fits};
 
 use base_bytes::same;
-use store_find::entry_at;
-use store_layout::KeyPlace;
+use operation_get::Shown;
 
-// How a dbVersion stands to the version stored at the place that was found.
+// How a dbVersion stands to the stored version under a key.
 #[derive(Drop)]
 pub enum Version {
     Same,
@@ -17,14 +16,13 @@ pub enum Version {
     Absent,
 }
 
-pub fn compare_version(store: &[u8], place: KeyPlace, old: &[u8]) -> Version
+pub fn compare_version(store: &[u8], key: &[u8], old: &[u8]) -> Version
     requires { Good store.now }
-    ensures { (s : State) → s.store ≡ store.now → result ≡ version_found old.now (entry_at s place) }
+    ensures { (s : State) → s.store ≡ store.now → result ≡ version_found old.now (entry_of s key.now) }
 {
-    match place {
-        KeyPlace::At(i) => {
-            let entry = entry_at(store, i);
-            let part = entry.version;
+    match operation_get::get(store, key) {
+        Shown::Found(p) => {
+            let part = p.version;
             let a = part.start;
             let e = a + part.len;
             if same(old, &store[a..e]) {
@@ -32,7 +30,7 @@ pub fn compare_version(store: &[u8], place: KeyPlace, old: &[u8]) -> Version
             }
             Version::Other
         }
-        KeyPlace::Gap(_) => Version::Absent,
+        Shown::Missing => Version::Absent,
     }
 }
 

@@ -71,12 +71,15 @@ decode-block e rest fit =
     ap decode (shape e rest)
     ∙ (λ i. record { key = k1 i; version = k2 i; tag = k3 i; value = k4 i; algorithm = e.algorithm })
 
--- a block that nothing follows holds its entry, and that of an entry that fits is good
+-- the block of an entry whose parts fit their places is good exactly when the entry fits
 pub decode-own : (e : Entry) → Sized e → decode (block e) ≡ e
 decode-own e s = ap decode (sym (append-nil (block e))) ∙ decode-block e [] s
 
 pub fit-good : (e : Entry) → Fit e → BlockGood (block e)
 fit-good e f = let d = decode-own e (sized f) in record { fit = subst (λ (x : Entry). Fit x) (sym d) f; same = ap block d }
+
+pub good-fit : (e : Entry) → Sized e → BlockGood (block e) → Fit e
+good-fit e s g = subst (λ (x : Entry). Fit x) (decode-own e s) g.fit
 
 pub good-size : (b : List ℕ) → BlockGood b → length b ≡ 512
 good-size b g = ap length (sym g.same) ∙ length-block (decode b) (sized g.fit)

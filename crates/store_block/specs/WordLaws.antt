@@ -78,14 +78,3 @@ word-four l i a b c d p0 p1 p2 p3 =
     let q2 : get_or l (i + 1 + 1) 0 ≡ get_or l (i + 2) 0 = let z : i + 1 + 1 ≡ i + 2 = omega arith in ap (λ (m : ℕ). get_or l m 0) z in
     let q3 : get_or l (i + 1 + 1 + 1) 0 ≡ get_or l (i + 3) 0 = let z : i + 1 + 1 + 1 ≡ i + 3 = omega arith in ap (λ (m : ℕ). get_or l m 0) z in
     omega arith
-
--- eight bytes are two words
-pub word-eight : (l : List ℕ) (i : ℕ) → word_at 4 l i * 4294967296 + word_at 4 l (i + 4) ≡ word_at 8 l i
-unfolding word_at
-word-eight l i =
-    let at : (m n : ℕ) → m ≡ n → get_or l m 0 ≡ get_or l n 0 = λ m n z. ap (λ (m : ℕ). get_or l m 0) z in
-    let q4 = at (i + 1 + 1 + 1 + 1) (i + 4) (omega arith) in
-    let q5 = at (i + 1 + 1 + 1 + 1 + 1) (i + 4 + 1) (omega arith) in
-    let q6 = at (i + 1 + 1 + 1 + 1 + 1 + 1) (i + 4 + 1 + 1) (omega arith) in
-    let q7 = at (i + 1 + 1 + 1 + 1 + 1 + 1 + 1) (i + 4 + 1 + 1 + 1) (omega arith) in
-    omega arith

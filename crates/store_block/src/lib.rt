@@ -27,14 +27,6 @@ fn word(s: &[u8], i: usize) -> usize
     a + b + c + wide(s[i + 3])
 }
 
-// Eight bytes from i on.
-fn double_word(s: &[u8], i: usize) -> usize
-    requires { i + 8 ≤ length s.now }
-    ensures { result ≡ word_at 8 s.now i }
-{
-    word(s, i) * 4294967296 + word(s, i + 4)
-}
-
 // How a from i on stands to b from i on, byte by byte.
 fn compare_from(a: &[u8], b: &[u8], from: usize) -> Order
     requires { (from ≤ length a.now) × (from ≤ length b.now) }
@@ -62,54 +54,28 @@ fn compare_from(a: &[u8], b: &[u8], from: usize) -> Order
     }
 }
 
-// The same, the first four bytes at once where they are among the n that both have.
-fn compare_last(a: &[u8], b: &[u8], from: usize, n: usize) -> Order
-    requires { (from ≤ n) × (n ≤ length a.now) × (n ≤ length b.now) }
-    ensures { result ≡ cmp (drop from a.now) (drop from b.now) }
-{
-    if n - from < 4 {
-        return compare_from(a, b, from);
-    }
-    let x = word(a, from);
-    let y = word(b, from);
-    if x < y {
-        return Order::Less;
-    }
-    if y < x {
-        return Order::Greater;
-    }
-    compare_from(a, b, from + 4)
-}
-
-fn least(x: usize, y: usize) -> usize
-    ensures { (result ≤ x) × (result ≤ y) }
-{
-    if x < y {
-        return x;
-    }
-    y
-}
-
-// How the key a stands to the key b: eight bytes at a time, as big-endian numbers stand as their bytes do.
+// How the key a stands to the key b: four bytes at a time, as big-endian numbers stand as their bytes do.
 pub fn compare(a: &[u8], b: &[u8]) -> Order
     ensures { result ≡ cmp a.now b.now }
 {
-    let n = least(a.len(), b.len());
     let mut i: usize = 0;
-    let mut e: usize = 8;
-    while e <= n {
-        let x = double_word(a, i);
-        let y = double_word(b, i);
+    let mut e: usize = 4;
+    while e <= a.len() {
+        if b.len() < e {
+            return compare_from(a, b, i);
+        }
+        let x = word(a, i);
+        let y = word(b, i);
         if x < y {
             return Order::Less;
         }
         if y < x {
             return Order::Greater;
         }
-        i += 8;
-        e += 8;
+        i += 4;
+        e += 4;
     }
-    compare_last(a, b, i, n)
+    compare_from(a, b, i)
 }
 
 // Writes src into out from the byte at on.

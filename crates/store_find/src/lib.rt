@@ -1,59 +1,33 @@
 // The entries of a lent store: where a key stands, and what stands at a place.
-ghost use Rattle.std.specs.Prelude.{◌≡◌, ◌<◌};
-ghost use Rattle.store_layout.specs.Store.{blocks_in};
+ghost use Rattle.std.specs.Prelude.{◌≡◌};
 ghost use Rattle.store_layout.specs.Entries.{Sought, EntryAt, no_parts};
-ghost use Rattle.store_layout.specs.Search.{order_at, search_in};
 
 use store_block::Order;
-use store_block::offsets::{BLOCK_BYTES, KEY, KEY_LENGTH, TAG, VALUE, VERSION};
-use store_layout::{EntryPart, KeyPlace, Parts, Search, block_of};
+use store_block::offsets::{BLOCK_BYTES, KEY, TAG, VALUE, VERSION};
+use store_layout::{EntryPart, KeyPlace, Parts};
 
-// How a key stands to the block at a place: blank ones stand behind every key.
-pub fn compare_at(store: &[u8], key: &[u8], i: usize) -> Order
-    requires { i < blocks_in store.now }
-    ensures { result ≡ order_at store.now key.now i }
-{
-    let a = block_of(store, i);
-    if store[a] == 0 {
-        return Order::Less;
-    }
-    let s = a + KEY;
-    let e = s + base_integers::as_usize::wide(store[a + KEY_LENGTH]);
-    store_block::compare(key, &store[s..e])
-}
-
-// The place of a key, or where it would go, and how many halvings that took: each leaves at most half of the blocks in question.
-pub fn search(store: &[u8], key: &[u8]) -> Search
-    ensures { result ≡ search_in store.now key.now }
-{
-    let mut lo: usize = 0;
-    let mut hi = store.len() / BLOCK_BYTES;
-    let mut halvings: usize = 0;
-    while lo < hi {
-        let m = lo + (hi - lo) / 2;
-        halvings += 1;
-        match compare_at(store, key, m) {
-            Order::Less => hi = m,
-            Order::Equal => {
-                return Search {
-                    place: KeyPlace::At(m),
-                    halvings,
-                }
-            }
-            Order::Greater => lo = m + 1,
-        }
-    }
-    Search {
-        place: KeyPlace::Gap(lo),
-        halvings,
-    }
-}
-
-// The place alone.
+// The place of a key, or where it would go.
 pub fn find(store: &[u8], key: &[u8]) -> KeyPlace
     ensures { Sought store.now key.now result }
 {
-    search(store, key).place
+    let n = store.len() / BLOCK_BYTES;
+    let mut i: usize = 0;
+    let mut a: usize = 0;
+    while i < n {
+        if store[a] == 0 {
+            return KeyPlace::Gap(i);
+        }
+        let s = a + KEY;
+        let e = s + base_integers::as_usize::wide(store[a + 1]);
+        match store_block::compare(key, &store[s..e]) {
+            Order::Less => return KeyPlace::Gap(i),
+            Order::Equal => return KeyPlace::At(i),
+            Order::Greater => {}
+        }
+        i += 1;
+        a += BLOCK_BYTES;
+    }
+    KeyPlace::Gap(i)
 }
 
 // Where the parts of the entry at a place lie; empty parts where there is none.
@@ -63,7 +37,7 @@ pub fn entry_at(store: &[u8], i: usize) -> Parts
     if store.len() / BLOCK_BYTES <= i {
         return no_parts();
     }
-    let a = block_of(store, i);
+    let a = i * BLOCK_BYTES;
     let n = base_integers::as_usize::wide(store[a + 4]) * 256
         + base_integers::as_usize::wide(store[a + 5]);
     if 384 < n {

@@ -12,7 +12,8 @@ use Rattle.store_block.specs.BlockLaws.{sized, decode-block, length-block}
 use Rattle.store_block.specs.Decides.{Decides}
 use Rattle.store_block.specs.DecidesLaws.{decides-by, agree, both-decides, leb-decides, eqb-decides, equal-decides, less-decides, block-decides}
 use Rattle.store_layout.specs.Store.{blocks_in, blocks, bytes_of, entries_of, AllFit, Above, Sorted, Good, good_from, store_good}
-use Rattle.store_layout.specs.StoreLaws.{first-at, room, entries-bytes, bytes-cons, bytes-nil, used, length-bytes}
+use Rattle.store_layout.specs.StoreLaws.{room, entries-bytes, bytes-cons, bytes-nil, used, length-bytes}
+use Rattle.store_layout.specs.WalkLaws.{first-at}
 use Rattle.store_layout.specs.Check.{GoodFrom, Step, Turn}
 
 above-none : (es : List Entry) → AllFit es → Above [] es

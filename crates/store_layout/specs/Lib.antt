@@ -11,12 +11,8 @@ pub mod LookupLaws
 pub mod FilteredLaws
 pub mod Neighbours
 pub mod NeighbourLaws
+pub mod WalkLaws
 pub mod Check
 pub mod CheckLaws
-pub mod BlockAtLaws
-pub mod Search
-pub mod Halving
-pub mod HalvingLaws
-pub mod SearchLaws
 pub mod After
 pub mod KeptLaws

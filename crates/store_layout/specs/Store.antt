@@ -9,10 +9,6 @@ use Rattle.store_block.specs.Offsets.{BLOCK_BYTES}
 abbrev pub blocks_in : List ℕ → ℕ
 blocks_in l = length l / BLOCK_BYTES
 
--- where the block at a place begins
-abbrev pub block_start : ℕ → ℕ
-block_start i = i * BLOCK_BYTES
-
 -- "1 to 128 blocks of 512"
 unfoldable pub size_good : List ℕ → Bool
 size_good l = leb 1 (blocks_in l) && (leb (blocks_in l) 128 && eqb (blocks_in l * BLOCK_BYTES) (length l))

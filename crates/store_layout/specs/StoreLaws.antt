@@ -1,23 +1,20 @@
 -- Laws of the store: its entries and their bytes determine each other; its bytes with an entry put in, replaced or removed.
-use Rattle.std.specs.Prelude.{◌≡◌, eqb, Bool, true, false, get_or}
+use Rattle.std.specs.Prelude.{◌≡◌, eqb, Bool, true, false}
 use Rattle.std.proofs.Math.Path.{refl, sym, ap, ap₂}
-use Rattle.std.proofs.Common.{◌∙◌, subst, not-suc-le-zero, le_of_suc-le-suc, take-append-drop, length-drop, drop_at, length-take-le, drop-drop, get_or-drop, eq-eqb, ne_eqb}
+use Rattle.std.proofs.Common.{◌∙◌, subst, not-suc-le-zero, le_of_suc-le-suc, take-append-drop, length-drop, drop_at, length-take-le, drop-drop, drop-cons, get_or-drop, eq-eqb, ne_eqb}
 use mathlib.Core.List.{List, [], ◌∷◌, ◌++◌, append_assoc, append-nil}
 use Prim.Native.Nat.{ℕ, zero, suc, ◌+◌, ◌-◌, ◌*◌, ◌/◌, ◌≤◌, ◌<◌}
 use native.Mathlib.Omega.{arith}
-use Rattle.std.proofs.Math.ListN.{length, take, drop, replicate, length-append, length-take}
-use Rattle.std.proofs.lemmas.List.{length-replicate, get_or-replicate, replicate-append-replicate}
-use Rattle.std.proofs.Math.Seq.{take_at, drop-append-add}
-use Rattle.store_block.specs.Entry.{Entry, Fit}
+use Rattle.std.proofs.Math.ListN.{length, take, drop, get_or, replicate, length-append, get_or-replicate, length-take}
+use Rattle.std.proofs.lemmas.List.{length-replicate, replicate-append-replicate}
+use Rattle.std.proofs.Math.Seq.{take_at, drop-append-add, get_or-append-add}
+use Rattle.store_block.specs.Entry.{Entry, Fit, no_entry}
 use Rattle.store_block.specs.Block.{block, body, head, decode}
 use Rattle.store_block.specs.BlockLaws.{sized, decode-block, length-block}
 use Rattle.store_block.specs.Over.{over}
 use Rattle.store_block.specs.OverLaws.{over-after, over-before}
 use Rattle.store_layout.specs.Store.{blocks_in, blocks, bytes_of, entries_from, entries_of, AllFit, none, more, Sorted, Good}
 use Rattle.store_layout.specs.Splices.{insert_at, replace_at, remove_at}
-
-pub first-at : (l : List ℕ) (a : ℕ) → get_or (drop a l) 0 0 ≡ get_or l a 0
-first-at l a = let z : a + 0 ≡ a = omega arith in get_or-drop a l 0 0 ∙ ap (λ (n : ℕ). get_or l n 0) z
 
 pub from-blank : (n : ℕ) (l : List ℕ) → get_or l 0 0 ≡ 0 → entries_from n l ≡ []
 unfolding entries_from
@@ -239,3 +236,33 @@ module _ (es : List Entry) (n i : ℕ) (fs : AllFit es) (k : length es ≤ n) wh
   pub remove-bytes : i < length es
       → over (over (bytes_of n es) (i * 512) (take (length es * 512 - 512 - i * 512) (drop (i * 512 + 512) (bytes_of n es)))) (length es * 512 - 512) (replicate 512 0) ≡ bytes_of n (remove_at i es)
   remove-bytes h = remove-with (replicate 512 0) (length-replicate {A = ℕ} 512 0) (λ z. replicate-append-replicate 512 z 0) h
+
+-- ---- the first byte of the block at a place tells whether it is used
+module _ (l : List ℕ) (g : Good l) (i : ℕ) where
+  at_place : get_or l (i * 512) 0 ≡ get_or (drop (i * 512) (bytes_of (blocks_in l) (entries_of l))) 0 0
+  at_place =
+      let z : i * 512 ≡ i * 512 + 0 = omega arith in
+      ap₂ (λ (x : List ℕ) (m : ℕ). get_or x m 0) g.same z ∙ sym (get_or-drop (i * 512) (bytes_of (blocks_in l) (entries_of l)) 0 0)
+
+  pub used-at : i < length (entries_of l) → get_or l (i * 512) 0 ≡ 1
+  unfolding blocks
+  used-at h =
+      let es : List Entry = entries_of l in
+      let x : Entry = get_or es i no_entry in
+      at_place
+      ∙ ap (λ (y : List ℕ). get_or y 0 0)
+      (drop-bytes es (blocks_in l) i g.fit (omega arith) (room l)
+      ∙ ap (λ (ys : List Entry). blocks ys ++ replicate ((blocks_in l - length es) * 512) 0) (drop-cons es i no_entry h)
+      ∙ append_assoc (block x) (blocks (drop (suc i) es)) _)
+      ∙ block-first x _
+
+  pub blank-at : length (entries_of l) ≤ i → i < blocks_in l → get_or l (i * 512) 0 ≡ 0
+  unfolding bytes_of
+  blank-at h k =
+      let es : List Entry = entries_of l in
+      let n : ℕ = blocks_in l in
+      let b = length-blocks es g.fit in
+      let p : i * 512 ≡ length (blocks es) + (i * 512 - length es * 512) = omega arith in
+      ap₂ (λ (x : List ℕ) (m : ℕ). get_or x m 0) g.same p
+      ∙ get_or-append-add (blocks es) (replicate ((n - length es) * 512) 0) (i * 512 - length es * 512) 0
+      ∙ get_or-replicate ((n - length es) * 512) (i * 512 - length es * 512) 0 0 (omega arith)

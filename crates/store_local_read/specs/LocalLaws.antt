@@ -22,7 +22,7 @@ use Rattle.store_layout.specs.StoreLaws.{room, good_length}
 use Rattle.store_layout.specs.CheckLaws.{store-decides}
 use Rattle.store_layout.specs.Entries.{by_order, find_from, find_in, EntryAt}
 use Rattle.store_layout.specs.EntriesLaws.{is_at}
-use Rattle.store_layout.specs.BlockAtLaws.{entry_place}
+use Rattle.store_find.specs.EntryAtLaws.{entry_place}
 use Rattle.store_layout.specs.Lookup as lookup
 use Rattle.store_layout.specs.LookupLaws.{find_at, find-gap}
 use Rattle.store_local_read.specs.declared.Local.{Local}
@@ -84,7 +84,7 @@ module _ (l : List ℕ) (g : Good l) (i : ℕ) (h : i < blocks_in l) where
   in-space =
       let b : List ℕ = drop (i * 512) l in (
         get_or b 4 0 * 256 + get_or b 5 0,
-        ap (λ (e : Entry). e.value) (sym (entry_place l g i (i * 512) refl h)) ∙ ap (take (get_or b 4 0 * 256 + get_or b 5 0)) (drop-drop 120 (i * 512) l),
+        ap (λ (e : Entry). e.value) (sym (entry_place l g i h)) ∙ ap (take (get_or b 4 0 * 256 + get_or b 5 0)) (drop-drop 120 (i * 512) l),
       )
 
   pub value_there : take (length (value_at l i)) space ≡ value_at l i

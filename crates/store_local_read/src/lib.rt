@@ -4,8 +4,8 @@ ghost use Rattle.store_block.specs.Entry.{no_entry};
 ghost use Rattle.store_layout.specs.Store.{blocks_in, entries_of, Good};
 ghost use Rattle.store_local_read.specs.Local.{answer_of, local_of, part_of};
 
-use store_block::offsets::VALUE;
-use store_layout::{KeyPlace, block_of};
+use store_block::offsets::{BLOCK_BYTES, VALUE};
+use store_layout::KeyPlace;
 
 // What a local read finds: the value's place in the store, nothing, or refusal 2.
 #[derive(Drop)]
@@ -35,9 +35,8 @@ fn value_at(store: &[u8], i: usize) -> Local
 {
     let parts = store_find::entry_at(store, i);
     let value = parts.value;
-    let a = block_of(store, i);
     Local::Value {
-        start: a + VALUE,
+        start: i * BLOCK_BYTES + VALUE,
         len: value.len,
     }
 }

@@ -1,4 +1,6 @@
 pub mod Table
 pub mod TableLaws
+pub mod Halving
+pub mod HalvingLaws
 pub mod Inserted
 pub mod InsertedLaws

@@ -15,7 +15,7 @@ use Rattle.store_layout.specs.Store.{blocks_in, size_good, blocks, bytes_of}
 use Rattle.store_layout.specs.Size.{SizeGood}
 use Rattle.store_order_table.specs.Table.{block_at, entries_at, Names}
 use Rattle.store_order_table.specs.TableLaws.{length-entries, entry-at}
-use Rattle.store_layout.specs.HalvingLaws.{sorted_apart}
+use Rattle.store_order_table.specs.HalvingLaws.{sorted_apart}
 use Rattle.store_arrange.specs.Moves.{blocks_at, arranged, Distinct}
 use Rattle.store_rescue.specs.Rescue.{blocks_from, kept_from, report_from, kept_of, report_of, rescued_store, outcome, rescue_of}
 use Rattle.store_rescue.specs.Listed.{Each, Kept, Listed, Judged}

@@ -34,23 +34,22 @@ module _ (l : List ℕ) (g : Good l) where
   unfolding insert_answer
   opened h = sym (ap (λ (x : Bool). cond x Stored Full) (lt-ltb (length (entries_of l)) (blocks_in l) h))
 
-  pub inserted : length (entries_of l) < blocks_in l → (i : ℕ) (b : List ℕ) → BlockGood b → i ≤ length (entries_of l) → (a end : ℕ) → a ≡ i * 512 → end ≡ length (entries_of l) * 512
-      → over (over l (a + 512) (take (end - a) (drop a l))) a b ≡ insert_store l i (decode b)
+  pub inserted : length (entries_of l) < blocks_in l → (i : ℕ) (b : List ℕ) → BlockGood b → i ≤ length (entries_of l) → (u : ℕ) → u ≡ length (entries_of l)
+      → over (over l (i * 512 + 512) (take (u * 512 - i * 512) (drop (i * 512) l))) (i * 512) b ≡ insert_store l i (decode b)
   unfolding insert_store
-  inserted h i b d k a end p q =
+  inserted h i b d k u e =
       let es : List Entry = entries_of l in
       let n : ℕ = blocks_in l in
-      ap₂ (λ (a end : ℕ). over (over l (a + 512) (take (end - a) (drop a l))) a b) p q
-      ∙ ap₂ (λ (x y : List ℕ). over (over x (i * 512 + 512) (take (length es * 512 - i * 512) (drop (i * 512) x))) (i * 512) y) g.same (sym d.same)
+      ap₂ (λ (x : List ℕ) (y : ℕ). over (over x (i * 512 + 512) (take (y * 512 - i * 512) (drop (i * 512) x))) (i * 512) b) g.same e
+      ∙ ap (λ (x : List ℕ). over (over (bytes_of n es) (i * 512 + 512) (take (length es * 512 - i * 512) (drop (i * 512) (bytes_of n es)))) (i * 512) x) (sym d.same)
       ∙ insert-bytes es n i g.fit (room l) (decode b) d.fit k h
       ∙ sym (ap (λ (x : Bool). cond x (bytes_of n (insert_at i (decode b) es)) l) (lt-ltb (length es) n h))
 
-  pub removed : (i : ℕ) → i < length (entries_of l) → (a last : ℕ) → a ≡ i * 512 → last ≡ length (entries_of l) * 512 - 512
-      → over (over l a (take (last - a) (drop (a + 512) l))) last (replicate 512 0) ≡ bytes_of (blocks_in l) (remove_at i (entries_of l))
-  removed i h a last p q =
+  pub removed : (i : ℕ) → i < length (entries_of l) → (u : ℕ) → u ≡ length (entries_of l)
+      → over (over l (i * 512) (take (u * 512 - 512 - i * 512) (drop (i * 512 + 512) l))) (u * 512 - 512) (replicate 512 0) ≡ bytes_of (blocks_in l) (remove_at i (entries_of l))
+  removed i h u e =
       let es : List Entry = entries_of l in
-      ap₂ (λ (a last : ℕ). over (over l a (take (last - a) (drop (a + 512) l))) last (replicate 512 0)) p q
-      ∙ ap (λ (x : List ℕ). over (over x (i * 512) (take (length es * 512 - 512 - i * 512) (drop (i * 512 + 512) x))) (length es * 512 - 512) (replicate 512 0)) g.same
+      ap₂ (λ (x : List ℕ) (y : ℕ). over (over x (i * 512) (take (y * 512 - 512 - i * 512) (drop (i * 512 + 512) x))) (y * 512 - 512) (replicate 512 0)) g.same e
       ∙ remove-bytes es (blocks_in l) i g.fit (room l) h
 
   -- ---- put
@@ -80,9 +79,9 @@ module _ (l : List ℕ) (g : Good l) where
     unfolding find_in
     gap-low i q = let r = in-gap 0 i e (entries_of l) (sym q) in let r1 = r.place in let r2 = r.within in omega arith
 
-    pub replaced : Fit e → (i : ℕ) → At i ≡ find_in e.key (entries_of l) → (a : ℕ) → a ≡ i * 512 → (Stored ≡ put_answer l e) × (over l a (block e) ≡ put_store l e)
+    pub replaced : Fit e → (i : ℕ) → At i ≡ find_in e.key (entries_of l) → (Stored ≡ put_answer l e) × (over l (i * 512) (block e) ≡ put_store l e)
     unfolding find_in has_room roomy when_stored
-    replaced f i q w p' =
+    replaced f i q =
         let es : List Entry = entries_of l in
         let n : ℕ = blocks_in l in
         let r = is_at 0 i e es (sym q) in
@@ -90,7 +89,7 @@ module _ (l : List ℕ) (g : Good l) where
         let p = r.put in
         let a : put_answer l e ≡ Stored = stored_answer Stored f (ap (λ (o : KeyPlace). cond (roomy o (length es) n) Stored Full) (sym q)) in (
           sym a,
-          ap₂ (λ (x : List ℕ) (w : ℕ). over x w (block e)) g.same p'
+          ap (λ (x : List ℕ). over x (i * 512) (block e)) g.same
               ∙ replace-bytes es n i g.fit (room l) e f (at_low i q)
               ∙ ap (bytes_of n) (ap (λ (d : ℕ). replace_at d e es) (sym off) ∙ sym p)
               ∙ sym (stored_bytes Stored a),
@@ -115,6 +114,10 @@ module _ (l : List ℕ) (g : Good l) where
   module _ (k : List ℕ) where
     own : Entry
     own = entry k [] [] [] 0
+
+    pub delete-low : (i : ℕ) → At i ≡ find_in k (entries_of l) → i < length (entries_of l)
+    unfolding own
+    delete-low i q = at_low own i q
 
     pub taken : (i : ℕ) → At i ≡ find_in k (entries_of l) → (Deleted ≡ delete_answer l k) × (bytes_of (blocks_in l) (remove_at i (entries_of l)) ≡ delete_store l k)
     unfolding find_in delete_answer delete_of delete_store own

@@ -1,12 +1,13 @@
 // An entry deleted from a lent store.
-ghost use Rattle.std.specs.Prelude.{◌≡◌, List, ℕ, ◌+◌, ◌-◌, ◌≤◌, ◌<◌, length, take, drop};
+ghost use Rattle.std.specs.Prelude.{◌≡◌, ◌+◌, ◌-◌, ◌≤◌, ◌<◌, length, take, drop};
 ghost use Rattle.store_block.specs.Over.{over};
 ghost use Rattle.store_layout.specs.Store.{blocks_in, bytes_of, entries_of, Good};
 ghost use Rattle.store_layout.specs.Splices.{remove_at};
-ghost use Rattle.store_layout.specs.Entries.{past_of, find_in, delete_answer, delete_store};
+ghost use Rattle.store_layout.specs.Entries.{delete_answer, delete_store};
 
 use store_block::offsets::BLOCK_BYTES;
-use store_layout::{DeleteAnswer, KeyPlace, block_of, count};
+use store_find::find;
+use store_layout::{DeleteAnswer, KeyPlace, count};
 
 // Moves the bytes that stand a block above a up to e down to there.
 fn move_down(store: &mut [u8], a: usize, e: usize)
@@ -25,19 +26,19 @@ fn remove(store: &mut [u8], i: usize)
     requires { Good store.old × (i < length (entries_of store.old)) }
     ensures { store.new ≡ bytes_of (blocks_in store.old) (remove_at i (entries_of store.old)) }
 {
-    let last = block_of(store, count(store) - 1);
-    let a = block_of(store, i);
+    let last = count(store) * BLOCK_BYTES - BLOCK_BYTES;
+    let a = i * BLOCK_BYTES;
     move_down(store, a, last);
     store_block::clear(store, last, BLOCK_BYTES);
 }
 
-// Removes the entry under a key, whose place was found; its room is used again.
-pub fn delete(store: &mut [u8], place: KeyPlace) -> DeleteAnswer
-    requires { Good store.old × (past_of place ≤ length (entries_of store.old)) }
-    ensures { (k : List ℕ) → place ≡ find_in k (entries_of store.old)
-        → (result ≡ delete_answer store.old k) × (store.new ≡ delete_store store.old k) }
+// Removes the entry under a key; its room is used again.
+pub fn delete(store: &mut [u8], key: &[u8]) -> DeleteAnswer
+    requires { Good store.old }
+    ensures value { result ≡ delete_answer store.old key.now }
+    ensures store_after { store.new ≡ delete_store store.old key.now }
 {
-    match place {
+    match find(store, key) {
         KeyPlace::At(i) => {
             remove(store, i);
             DeleteAnswer::Deleted

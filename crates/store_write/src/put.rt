@@ -4,11 +4,12 @@ ghost use Rattle.store_block.specs.Entry.{entry, Sized};
 ghost use Rattle.store_block.specs.Block.{BlockGood, decode};
 ghost use Rattle.store_block.specs.Over.{over};
 ghost use Rattle.store_layout.specs.Store.{entries_of, Good};
-ghost use Rattle.store_layout.specs.Entries.{find_in, put_answer, put_store};
+ghost use Rattle.store_layout.specs.Entries.{put_answer, put_store};
 ghost use Rattle.store_write.specs.Change.{insert_answer, insert_store};
 
 use store_block::offsets::BLOCK_BYTES;
-use store_layout::{KeyPlace, PutAnswer, block_of, count};
+use store_find::find;
+use store_layout::{KeyPlace, PutAnswer, count};
 
 // Moves the bytes from a up to e up by a block.
 fn move_up(store: &mut [u8], a: usize, e: usize)
@@ -28,43 +29,37 @@ fn insert(store: &mut [u8], i: usize, b: &[u8]) -> PutAnswer
     ensures value { result ≡ insert_answer store.old }
     ensures store_after { store.new ≡ insert_store store.old i (decode b.now) }
 {
-    let used = count(store);
-    if store.len() / BLOCK_BYTES <= used {
+    let end = count(store) * BLOCK_BYTES;
+    if store.len() <= end {
         return PutAnswer::Full;
     }
-    let a = block_of(store, i);
-    let end = block_of(store, used);
+    let a = i * BLOCK_BYTES;
     move_up(store, a, end);
     store_block::copy(store, a, b);
     PutAnswer::Stored
 }
 
-// Stores an entry: in place of the one under its key, or where its key goes. The place is where its key was found.
+// Stores an entry: in place of the one under its key, or where its key goes.
 pub fn put(
     store: &mut [u8],
-    place: KeyPlace,
     key: &[u8],
     version: &[u8],
     tag: &[u8],
     value: &[u8],
     algorithm: u8,
 ) -> PutAnswer
-    requires { Good store.old × Sized (entry key.now version.now tag.now value.now algorithm)
-        × (place ≡ find_in key.now (entries_of store.old)) }
+    requires { Good store.old × Sized (entry key.now version.now tag.now value.now algorithm) }
     ensures value { result ≡ put_answer store.old (entry key.now version.now tag.now value.now algorithm) }
     ensures store_after { store.new ≡ put_store store.old
         (entry key.now version.now tag.now value.now algorithm) }
 {
-    if key.len() == 0 {
-        return PutAnswer::Unfit;
-    }
-    if 6 < algorithm {
-        return PutAnswer::Unfit;
-    }
     let b = store_block_codec::make::make(key, version, tag, value, algorithm);
-    match place {
+    if !store_block_codec::rules::good(&b) {
+        return PutAnswer::Unfit;
+    }
+    match find(store, key) {
         KeyPlace::At(i) => {
-            let a = block_of(store, i);
+            let a = i * BLOCK_BYTES;
             store_block::copy(store, a, &b);
             PutAnswer::Stored
         }

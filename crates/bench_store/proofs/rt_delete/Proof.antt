@@ -1,8 +1,7 @@
 use mathlib.Core.Path.{◌≡◌, ◌∙◌, sym}
 use mathlib.Core.Bool.{true}
 use borrow.Author.Tests.{not-true, not-false}
-use Rattle.store_layout.specs.Store.{entries_of, store_good}
-use Rattle.store_layout.specs.HalvingLaws.{found_among}
+use Rattle.store_layout.specs.Store.{store_good}
 use Rattle.store_layout.specs.declared.DeleteAnswer.TheVariants.{Deleted, Missing}
 use Rattle.bench_store.specs.CallsLaws.{good-store, not-deleted, delete-as}
 use borrow.Author.Rules.{rules}
@@ -26,16 +25,8 @@ returns c =
     let z = Z c.before in
     not-deleted z.args.store.now z.args.key.now (sym c.before.check.ensures ∙ not-true _ c.if1.true)
 
-find-requires : tie.Need-find-requires
-find-requires c κs = search rules
-
 delete-requires : tie.Need-delete-requires
-delete-requires c κs =
-    let f = c.before in
-    let e = f.before.before in
-    let a = (Z e.before).args in
-    let g = good-store a.store.now (good e) in
-    (g, found_among a.key.now (entries_of a.store.now) g.sorted (f.find.ensures.same g))
+delete-requires c κs = let e = c.before in good-store (Z e.before).args.store.now (good e)
 
 enum_told : tie.Need-enum-told
 enum_told c = search rules
@@ -49,11 +40,9 @@ same-length-2 c = search rules
 returns-2 : tie.Need-returns-2
 returns-2 c =
     let d = c.before.before.before.before in
-    let f = d.before.before in
-    let e = f.before.before in
+    let e = d.before.before in
     let z = Z e.before in
-    let r = d.delete.ensures z.args.key.now (f.find.ensures.same (good-store z.args.store.now (good e))) in
-    delete-as z.args.store.now z.args.key.now (good e) r.0 r.1 Deleted c.enum_told.given.1
+    delete-as z.args.store.now z.args.key.now (good e) d.delete.ensures.0 d.delete.ensures.1 Deleted c.enum_told.given.1
 
 same-length-3 : tie.Need-same-length-3
 same-length-3 c = search rules
@@ -61,11 +50,9 @@ same-length-3 c = search rules
 returns-3 : tie.Need-returns-3
 returns-3 c =
     let d = c.before.before.before.before in
-    let f = d.before.before in
-    let e = f.before.before in
+    let e = d.before.before in
     let z = Z e.before in
-    let r = d.delete.ensures z.args.key.now (f.find.ensures.same (good-store z.args.store.now (good e))) in
-    delete-as z.args.store.now z.args.key.now (good e) r.0 r.1 Missing c.enum-told2.given.1
+    delete-as z.args.store.now z.args.key.now (good e) d.delete.ensures.0 d.delete.ensures.1 Missing c.enum-told2.given.1
 
 pub rt-delete-spec : {M : Type 1} → statement M
 rt-delete-spec =
@@ -74,7 +61,6 @@ rt-delete-spec =
     check-requires
     same_length
     returns
-    find-requires
     delete-requires
     enum_told
     enum-told-2

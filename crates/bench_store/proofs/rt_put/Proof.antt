@@ -41,17 +41,11 @@ returns-2 c =
     let z = Z s.before.before in
     not-sized z.args.store.now (given z) (good s) ((s.sized.ensures z.args.algorithm).no (not-true _ c.if2.true))
 
-find-requires : tie.Need-find-requires
-find-requires c κs = search rules
-
 put-requires : tie.Need-put-requires
 put-requires c κs =
-    let f = c.before in
-    let e = f.before.before in
-    let s = e.before in
+    let s = c.before.before in
     let z = Z s.before.before in
-    let g = good-store z.args.store.now (good s) in
-    (g, (s.sized.ensures z.args.algorithm).yes (not-false _ e.if2.false), f.find.ensures.same g)
+    (good-store z.args.store.now (good s), (s.sized.ensures z.args.algorithm).yes (not-false _ c.before.if2.false))
 
 enum_told : tie.Need-enum-told
 enum_told c = search rules
@@ -68,7 +62,7 @@ same-length-3 c = search rules
 returns-3 : tie.Need-returns-3
 returns-3 c =
     let p = c.before.before.before.before in
-    let s = p.before.before.before.before.before in
+    let s = p.before.before.before in
     let z = Z s.before.before in
     put_as z.args.store.now (given z) (good s) p.put.ensures.0 p.put.ensures.1 Stored c.enum_told.given.1
 
@@ -78,7 +72,7 @@ same-length-4 c = search rules
 returns-4 : tie.Need-returns-4
 returns-4 c =
     let p = c.before.before.before.before in
-    let s = p.before.before.before.before.before in
+    let s = p.before.before.before in
     let z = Z s.before.before in
     put_as z.args.store.now (given z) (good s) p.put.ensures.0 p.put.ensures.1 Full c.enum-told2.given.1
 
@@ -88,7 +82,7 @@ same-length-5 c = search rules
 returns-5 : tie.Need-returns-5
 returns-5 c =
     let p = c.before.before.before.before in
-    let s = p.before.before.before.before.before in
+    let s = p.before.before.before in
     let z = Z s.before.before in
     put_as z.args.store.now (given z) (good s) p.put.ensures.0 p.put.ensures.1 Unfit c.enum-told3.given.1
 
@@ -102,7 +96,6 @@ rt-put-spec =
     sized-requires
     same-length-2
     returns-2
-    find-requires
     put-requires
     enum_told
     enum-told-2

@@ -1,8 +1,7 @@
 use mathlib.Core.Path.{◌∙◌, sym}
 use borrow.Author.Tests.{not-false}
-use Rattle.store_layout.specs.Store.{entries_of, Good}
+use Rattle.store_layout.specs.Store.{Good}
 use Rattle.store_layout.specs.CheckLaws.{store-decides}
-use Rattle.store_layout.specs.HalvingLaws.{found_among}
 use borrow.Author.Rules.{rules}
 use Rattle.program_store.proofs.delete_key.Statement.{statement}
 use Rattle.program_store.proofs.delete_key.Tie as tie
@@ -23,24 +22,17 @@ returns c = search rules
 add-k : tie.Need-overflow-add-k
 add-k c = search rules
 
-sub-find : tie.Need-overflow-sub-find
-sub-find c = search rules
+sub-delete : tie.Need-overflow-sub-delete
+sub-delete c = search rules
 
-part-find-start : tie.Need-slice-bounds-find-start
-part-find-start c = search rules
+part-delete-start : tie.Need-slice-bounds-delete-start
+part-delete-start c = search rules
 
-part-find-end : tie.Need-slice-bounds-find-end
-part-find-end c = search rules
-
-find-requires : tie.Need-find-requires
-find-requires c κs = search rules
+part-delete-end : tie.Need-slice-bounds-delete-end
+part-delete-end c = search rules
 
 delete-requires : tie.Need-delete-requires
-delete-requires c κs =
-    let f = c.before in
-    let e = f.before.before.before in
-    let g = good e in
-    (g, found_among _ (entries_of e.before.before.before.before.before.args.lent.now) g.sorted (f.find.ensures.same g))
+delete-requires c κs = good c.before.before
 
 enum_told : tie.Need-enum-told
 enum_told c = search rules
@@ -68,10 +60,9 @@ delete-key-spec =
     same_length
     returns
     add-k
-    sub-find
-    part-find-start
-    part-find-end
-    find-requires
+    sub-delete
+    part-delete-start
+    part-delete-end
     delete-requires
     enum_told
     enum-told-2

@@ -4,21 +4,13 @@ use mathlib.Core.Path.{◌≡◌, ◌∙◌, sym, subst}
 use lib.ListN.{get_or}
 use Rattle.store_layout.specs.declared.Parts.{Parts}
 use Rattle.store_layout.specs.Entries.{EntryAt}
-use Rattle.store_layout.specs.BlockAtLaws.{entry_place}
-use Rattle.store_find.specs.EntryAtLaws.{no_place, value-long, parts-here, nowhere}
+use Rattle.store_find.specs.EntryAtLaws.{entry_place, no_place, value-long, parts-here, nowhere}
 use borrow.Author.Rules.{rules}
 use Rattle.store_find.proofs.entry_at.Statement.{statement}
 use Rattle.store_find.proofs.entry_at.Tie as tie
 
-abbrev B : tie.After-wide2 → tie.After-block-of
-B c = c.before.before.before.before
-
-abbrev S : tie.After-block-of → tie.Start
-S b = b.before.before.before
-
 -- the length of the value
-value : (c : tie.After-wide2) → c.before.before.wide.result * 256 + c.wide2.result
-    ≡ get_or (S (B c)).args.store.now ((B c).Block-of.result + 4) 0 * 256 + get_or (S (B c)).args.store.now ((B c).Block-of.result + 5) 0
+value : (c : tie.After-wide2) → c.before.before.wide.result * 256 + c.wide2.result ≡ get_or c.before.before.before.before.before.before.args.store.now (c.before.before.before.before.before.before.args.i * 512 + 4) 0 * 256 + get_or c.before.before.before.before.before.before.args.store.now (c.before.before.before.before.before.before.args.i * 512 + 5) 0
 value c = let x = c.before.before.wide.ensures.0 in let y = c.wide2.ensures.0 in omega arith
 
 no-parts-requires : tie.Need-no-parts-requires
@@ -28,8 +20,8 @@ returns : tie.Need-returns
 returns c = let s = c.before.before.before.args in
     subst (λ (p : Parts). EntryAt s.store.now s.i p) (sym c.no-parts.ensures) (nowhere s.store.now s.i (λ g. no_place s.store.now g s.i c.before.if1.true))
 
-block-of-requires : tie.Need-block-of-requires
-block-of-requires c κs = search rules
+mul-a : tie.Need-overflow-mul-a
+mul-a c = search rules
 
 add_wide : tie.Need-overflow-add-wide
 add_wide c = search rules
@@ -59,12 +51,9 @@ no-parts-requires-2 : tie.Need-no-parts-requires-2
 no-parts-requires-2 c κs = search rules
 
 returns-2 : tie.Need-returns-2
-returns-2 c = let w = c.before.before in
-    let b = B w in
-    let s = (S b).args in
+returns-2 c = let s = c.before.before.before.before.before.before.before.before.args in
     subst (λ (p : Parts). EntryAt s.store.now s.i p) (sym c.no-parts2.ensures)
-    (nowhere s.store.now s.i
-    (λ g. let v = value w in let x = value-long s.store.now g s.i b.Block-of.result b.Block-of.ensures b.before.if1.left in let h = c.before.if2.true in absurd (omega arith)))
+    (nowhere s.store.now s.i (λ g. let v = value c.before.before in let w = value-long s.store.now g s.i c.before.before.before.before.before.before.if1.false in let h = c.before.if2.true in absurd (omega arith)))
 
 add-wide-3 : tie.Need-overflow-add-wide-3
 add-wide-3 c = search rules
@@ -112,11 +101,8 @@ shared-slice-read-algorithm : tie.Need-shared-slice-read-algorithm
 shared-slice-read-algorithm c = search rules
 
 returns-3 : tie.Need-returns-3
-returns-3 c = let w = c.before.before.before.before.before.before.before.before in
-    let b = B w in
-    let s = (S b).args in
-    let h = b.before.if1.left in
-    let a = b.Block-of.ensures in
+returns-3 c = let s = c.before.before.before.before.before.before.before.before.before.before.before.before.before.before.args in
+    let h = c.before.before.before.before.before.before.before.before.before.before.before.before.if1.false in
     let n = c.before.before.before.before.before.before.before.if2.false in
     let k = c.before.before.before.before.before.wide3.ensures in
     let v = c.before.before.before.wide4.ensures in
@@ -126,7 +112,7 @@ returns-3 c = let w = c.before.before.before.before.before.before.before.before 
       version_inside = omega arith;
       tag_inside = omega arith;
       value_inside = omega arith;
-      same = λ g. parts-here s.store.now b.Block-of.result _ _ _ _ k.0 v.0 t.0 (value w) ∙ entry_place s.store.now g s.i b.Block-of.result a h;
+      same = λ g. parts-here s.store.now (s.i * 512) _ _ _ _ k.0 v.0 t.0 (value c.before.before.before.before.before.before.before.before) ∙ entry_place s.store.now g s.i h;
     }
 
 pub entry-at-spec : {M : Type 1} → statement M
@@ -135,7 +121,7 @@ entry-at-spec =
     (tie.spec
     no-parts-requires
     returns
-    block-of-requires
+    mul-a
     add_wide
     shared-slice-read-wide
     wide-requires

@@ -1,64 +1,47 @@
-use Prim.Native.Nat.{ℕ, ◌+◌, ◌-◌, ◌*◌, ◌/◌, ◌≤◌}
+use Prim.Native.Nat.{ℕ, ◌+◌, ◌*◌, ◌≤◌, ◌-◌}
 use native.Mathlib.Omega.{arith}
-use mathlib.Core.Path.{◌≡◌, ◌∙◌, ap, sym}
-use mathlib.Core.List.{List}
-use lib.ListN.{length, get_or}
-use Rattle.store_layout.specs.Store.{blocks_in, entries_of, Good}
-use Rattle.store_layout.specs.StoreLaws.{room}
-use Rattle.store_layout.specs.BlockAtLaws.{is-used, is-blank}
+use mathlib.Core.Path.{◌≡◌, ◌∙◌, ap, refl, sym}
+use lib.ListN.{length, drop}
+use Rattle.store_layout.specs.Store.{blocks_in, entries_from, entries_of}
+use Rattle.store_layout.specs.WalkLaws.{count-blank, count-used, count-end}
 use Rattle.store_layout.proofs.count.Statement.{statement}
 use Rattle.store_layout.proofs.count.Tie as tie
 
 abbrev invariant-loop : tie.invariant-loop
-invariant-loop store lo₀ hi₀ lo hi = (lo ≤ hi) × (hi ≤ blocks_in store) × (Good store → (lo ≤ length (entries_of store)) × (length (entries_of store) ≤ hi))
+invariant-loop store n i₀ a₀ i a = (i ≤ n) × (a ≡ i * 512) × (n * 512 ≤ length store) × (i + length (entries_from (n - i) (drop a store)) ≡ length (entries_of store))
 
 abbrev decreases-loop : tie.decreases-loop
-decreases-loop store lo₀ hi₀ lo hi = hi - lo
-
-abbrev L : tie.At-loop invariant-loop decreases-loop → List ℕ
-L d = d.before.before.args.store.now
-
-abbrev M : tie.At-loop invariant-loop decreases-loop → ℕ
-M d = d.loop.lo + (d.loop.hi - d.loop.lo) / 2
-
--- byte 0 of the block in the middle
-first : (c : tie.After-block-of invariant-loop decreases-loop) → get_or (L c.before.before) (M c.before.before * 512) 0 ≡ get_or (L c.before.before) c.Block-of.result 0
-first c = sym (ap (λ (a : ℕ). get_or (L c.before.before) a 0) c.Block-of.ensures)
+decreases-loop store n i₀ a₀ i a = n - i
 
 loop-holds : tie.Need-loop-init invariant-loop decreases-loop
-loop-holds c = let r = room c.before.args.store.now in (omega arith, omega arith, λ g. (omega arith, r))
-
-sub-m : tie.Need-overflow-sub-m invariant-loop decreases-loop
-sub-m c = omega arith
-
-add-m : tie.Need-overflow-add-m invariant-loop decreases-loop
-add-m c = omega arith
-
-block-of-requires : tie.Need-block-of-requires invariant-loop decreases-loop
-block-of-requires c κs = omega arith
+unfolding entries_of
+loop-holds c = let l = c.args.store.now in
+    let z : 0 + length (entries_from (blocks_in l - 0) l) ≡ length (entries_from (blocks_in l - 0) l) = omega arith in
+    let y : blocks_in l - 0 ≡ blocks_in l = omega arith in
+    (omega arith, refl, omega arith, z ∙ ap (λ (k : ℕ). length (entries_from k l)) y)
 
 shared-slice-read-if1 : tie.Need-shared-slice-read-if1 invariant-loop decreases-loop
 shared-slice-read-if1 c = omega arith
+
+returns : tie.Need-returns invariant-loop decreases-loop
+returns c = λ g. sym (count-blank c.before.before.before.before.args.store.now _ _ c.before.before.before.loop.a c.if1.true) ∙ c.before.before.before.loop.invariant.3
+
+add-i : tie.Need-overflow-add-i invariant-loop decreases-loop
+add-i c = omega arith
+
+add_a : tie.Need-overflow-add-a invariant-loop decreases-loop
+add_a c = omega arith
 
 loop-less : tie.Need-loop-smaller invariant-loop decreases-loop
 loop-less c = omega arith
 
 loop-again : tie.Need-loop-preserved invariant-loop decreases-loop
-loop-again c = let d = c.before.before.before.before in
-    (omega arith, omega arith, λ g. ((d.loop.invariant.2 g).0, is-blank (L d) g (M d) (first c.before.before ∙ c.if1.true)))
+loop-again c = let d = c.before.before.before in
+    let l = d.before.args.store.now in
+    (omega arith, omega arith, omega arith, count-used l (blocks_in l) d.loop.i d.loop.a c.before.before.loop-test.true c.if1.false ∙ d.loop.invariant.3)
 
-add-lo : tie.Need-overflow-add-lo invariant-loop decreases-loop
-add-lo c = omega arith
-
-loop-less-2 : tie.Need-loop-smaller-2 invariant-loop decreases-loop
-loop-less-2 c = omega arith
-
-loop-again-2 : tie.Need-loop-preserved-2 invariant-loop decreases-loop
-loop-again-2 c = let d = c.before.before.before.before in
-    (omega arith, omega arith, λ g. (let u = is-used (L d) g (M d) (omega arith) (λ z. c.if1.false (sym (first c.before.before) ∙ z)) in omega arith, (d.loop.invariant.2 g).1))
-
-returns : tie.Need-returns invariant-loop decreases-loop
-returns c = λ g. let i = c.before.loop.invariant.2 g in let a = i.0 in let b = i.1 in omega arith
+returns-2 : tie.Need-returns-2 invariant-loop decreases-loop
+returns-2 c = λ g. sym (count-end c.before.before.args.store.now _ _ c.before.loop.a c.loop-test.false) ∙ c.before.loop.invariant.3
 
 pub count_spec : {M : Type 1} → statement M
 count_spec =
@@ -67,13 +50,10 @@ count_spec =
     invariant-loop
     decreases-loop
     loop-holds
-    sub-m
-    add-m
-    block-of-requires
     shared-slice-read-if1
+    returns
+    add-i
+    add_a
     loop-less
     loop-again
-    add-lo
-    loop-less-2
-    loop-again-2
-    returns)
+    returns-2)

@@ -10,8 +10,8 @@ use Rattle.store_layout.specs.CheckLaws.{key-at}
 use Rattle.store_layout.specs.Entries.{find_in}
 use Rattle.store_order_table.specs.Table.{entries_at}
 use Rattle.store_order_table.specs.TableLaws.{length-entries, entry-at}
-use Rattle.store_layout.specs.Halving.{Between}
-use Rattle.store_layout.specs.HalvingLaws.{between-all, gap-left, half-below, half-above, here}
+use Rattle.store_order_table.specs.Halving.{Between}
+use Rattle.store_order_table.specs.HalvingLaws.{between-all, gap-left, half-below, half-above, here}
 use borrow.Author.Rules.{rules}
 use Rattle.store_order_table.proofs.find.Statement.{statement}
 use Rattle.store_order_table.proofs.find.Tie as tie

@@ -1,4 +1,4 @@
-use Prim.Native.Nat.{ℕ, ◌*◌, ◌≤◌, ◌<◌}
+use Prim.Native.Nat.{ℕ, ◌+◌, ◌*◌, ◌≤◌, ◌<◌}
 use native.Mathlib.Omega.{arith}
 use mathlib.Core.Path.{◌≡◌, ◌∙◌, ap}
 use mathlib.Core.List.{List}
@@ -6,7 +6,7 @@ use lib.ListN.{length}
 use Rattle.store_block.specs.BlockLaws.{good-size}
 use Rattle.store_block.specs.Over.{over}
 use Rattle.store_layout.specs.Store.{blocks_in, entries_of}
-use Rattle.store_layout.specs.StoreLaws.{good_length}
+use Rattle.store_layout.specs.StoreLaws.{good_length, room}
 use Rattle.store_write.specs.ChangeLaws.{full, opened, inserted}
 use borrow.Author.Rules.{rules}
 use Rattle.store_write.proofs.put.insert.Statement.{statement}
@@ -21,59 +21,56 @@ L c = (S c).args.store.now
 used : (c : tie.After-count) → c.count.result ≡ length (entries_of (L c))
 used c = c.count.ensures (S c).requires.0
 
--- a block is blank, and the place is not behind the first of those
-free : (c : tie.Else1) → (length (entries_of (L c.before)) < blocks_in (L c.before)) × ((S c.before).args.i ≤ length (entries_of (L c.before)))
-free c = let u = used c.before in let h = c.if1.false in (omega arith, (S c.before).requires.1.1)
+-- the used blocks lie inside the store
+low : (c : tie.After-count) → (c.count.result * 512 ≤ length (L c)) × ((S c).args.i ≤ c.count.result)
+low c = let u = used c in let w = good_length (L c) (S c).requires.0 in let r = room (L c) in let p = (S c).requires.1.1 in (omega arith, omega arith)
 
-abbrev E : tie.After-block-of2 → tie.Else1
-E c = c.before.before.before.before
+-- a block is blank
+free : (c : tie.Else1) → length (entries_of (L c.before)) < blocks_in (L c.before)
+free c = let u = used c.before in let w = good_length (L c.before) (S c.before).requires.0 in let r = room (L c.before) in let h = c.if1.false in omega arith
 
--- where the block goes, and where the used ones end
-starts : (c : tie.After-block-of2) → (c.before.before.Block-of.result ≡ (S (E c).before).args.i * 512) × (c.block-of2.result ≡ length (entries_of (L (E c).before)) * 512)
-starts c = let u = used (E c).before in let e = c.block-of2.ensures in (c.before.before.Block-of.ensures, omega arith)
+above : (c : tie.Else1) → c.before.count.result * 512 + 512 ≤ length (L c.before)
+above c = let u = used c.before in let w = good_length (L c.before) (S c.before).requires.0 in let f = free c in omega arith
 
 count-requires : tie.Need-count-requires
 count-requires c κs = search rules
+
+mul-end : tie.Need-overflow-mul-end
+mul-end c = let g = (S c).well_formed in let l = low c in omega arith
 
 same_length : tie.Need-same-length
 same_length c = search rules
 
 returns : tie.Need-returns
-returns c = let d = c.before in full (L d) (S d).requires.0 (let u = used d in let h = c.if1.true in omega arith) _ _
+returns c = let d = c.before in
+    full (L d) (S d).requires.0 (let u = used d in let w = good_length (L d) (S d).requires.0 in let h = c.if1.true in omega arith) _ _
 
-block-of-requires : tie.Need-block-of-requires
-block-of-requires c κs = let f = free c.before in omega arith
-
-block-of-requires-2 : tie.Need-block-of-requires-2
-block-of-requires-2 c κs = search rules
+mul-a : tie.Need-overflow-mul-a
+mul-a c = let g = (S c.before).well_formed in let l = low c.before in omega arith
 
 move-up-requires : tie.Need-move-up-requires
-move-up-requires c κs = let b = c.before in
-    let d = (E b).before in
-    let f = free (E b) in let s = starts b in let w = good_length (L d) (S d).pre.0 in
-    (omega arith, omega arith)
+move-up-requires c κs = let d = c.before in let l = low d.before in let h = above d in (omega arith, omega arith)
 
 copy-requires : tie.Need-copy-requires
-copy-requires c κs = let b = c.before.before.before.before.before in
-    let d = (E b).before in
-    let f = free (E b) in let s = starts b in let w = good_length (L d) (S d).pre.0 in
-    let q = good-size _ (S d).pre.1.0 in
+copy-requires c κs = let d = c.before.before.before.before.before in
+    let s = S d.before in
+    let l = low d.before in
+    let h = above d in
+    let q = good-size _ s.pre.1.0 in
     omega arith
 
 same-length-2 : tie.Need-same-length-2
 same-length-2 c = search rules
 
 returns-2 : tie.Need-returns-2
-returns-2 c = let b = c.before.before.before.before.before.before.before.before in
-    let d = (E b).before in
-    let s = S d in
-    let f = free (E b) in
-    let t = starts b in
-    let a = b.before.before.Block-of.result in (
-      opened (L d) s.pre.0 f.0,
+returns-2 c = let d = c.before.before.before.before.before.before.before.before in
+    let s = S d.before in
+    let l = L d.before in
+    let a = s.args.i * 512 in (
+      opened l s.pre.0 (free d),
       c.before.before.copy.ensures
           ∙ ap (λ (x : List ℕ). over x a s.args.b.now) c.before.before.before.before.before.before.move_up.ensures
-          ∙ inserted (L d) s.pre.0 f.0 s.args.i s.args.b.now s.pre.1.0 f.1 a b.block-of2.result t.0 t.1,
+          ∙ inserted l s.pre.0 (free d) s.args.i s.args.b.now s.pre.1.0 s.pre.1.1 d.before.count.result (used d.before),
     )
 
 pub insert-spec : {M : Type 1} → statement M
@@ -81,10 +78,10 @@ insert-spec =
     tie.close
     (tie.spec
     count-requires
+    mul-end
     same_length
     returns
-    block-of-requires
-    block-of-requires-2
+    mul-a
     move-up-requires
     copy-requires
     same-length-2

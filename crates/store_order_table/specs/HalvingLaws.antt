@@ -1,4 +1,4 @@
--- What a comparison with the key at a place says of where a key stands.
+-- A search by halving: what a comparison with the key at a place says of where a key stands.
 use Rattle.std.specs.Prelude.{◌≡◌, length, get_or}
 use Rattle.std.proofs.Math.Path.{sym, ap, subst}
 use Rattle.std.proofs.Common.{◌∙◌, not-suc-le-zero, le_of_suc-le-suc}
@@ -17,16 +17,12 @@ use Rattle.store_layout.specs.Store.{Above, Sorted}
 use Rattle.store_layout.specs.Entries.{by_order, find_from, find_in, place_of, past_of}
 use Rattle.store_layout.specs.CheckLaws.{less-not-equal}
 use Rattle.store_layout.specs.EntriesLaws.{find-up_to, up_to-most}
-use Rattle.store_layout.specs.Halving.{Between}
+use Rattle.store_order_table.specs.Halving.{Between}
 
 -- what a search over all finds
 pub between-all : (k : List ℕ) (es : List Entry) → Sorted es → Between (find_in k es) 0 (length es)
 unfolding find_in
 between-all k es s = let a = find-up_to 0 k es s in let b = up_to-most k es in record { low = omega arith; high = omega arith }
-
--- what was found lies among the entries
-pub found_among : (k : List ℕ) (es : List Entry) → Sorted es → {p : KeyPlace} → p ≡ find_in k es → past_of p ≤ length es
-found_among k es s e = subst (λ (p : KeyPlace). past_of p ≤ length es) (sym e) (between-all k es s).high
 
 pub gap-left : (f : KeyPlace) (lo hi : ℕ) → hi ≤ lo → Between f lo hi → Gap lo ≡ f
 unfolding place_of past_of
