@@ -1,4 +1,6 @@
 // An ACL and its scopes written into the device record.
+#![tactic(auto)]
+
 ghost use Rattle.std.specs.Prelude.{◌≡◌, ◌+◌, ◌<◌, ◌≤◌, length};
 ghost use Rattle.base_integers.specs.Signed.{word_of};
 ghost use Rattle.access_record.specs.Record.{scope_bytes, acl_head};

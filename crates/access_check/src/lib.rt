@@ -1,4 +1,6 @@
 // Is the device record good?
+#![tactic(auto)]
+
 ghost use Rattle.std.specs.Prelude.{◌≡◌, ◌+◌, ◌*◌, ◌≤◌};
 ghost use Rattle.base_definitions.specs.Lists.{all};
 ghost use Rattle.access_record.specs.Table.{mask_good, scope_good, acl_good, acls_good, table_good};

@@ -1,4 +1,6 @@
 // The device record that Format makes.
+#![tactic(auto)]
+
 ghost use Rattle.std.specs.Prelude.{◌≡◌, ◌≤◌, length};
 ghost use Rattle.access_record.specs.Table.{host_table};
 ghost use Rattle.access_record.specs.Record.{table_bytes};

@@ -1,4 +1,6 @@
 // An identity looked up in the device record, and the key at its place.
+#![tactic(auto)]
+
 ghost use Rattle.std.specs.Prelude.{◌≡◌, true, ◌+◌, ◌*◌, ◌≤◌};
 ghost use Rattle.base_integers.specs.Signed.{word_of};
 ghost use Rattle.access_record.specs.Table.{table_good, find_from, place_of, acl_of};

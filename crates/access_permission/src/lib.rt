@@ -1,4 +1,6 @@
 // Permissions, by their numbers in document 01.
+#![tactic(auto)]
+
 pub const READ: u8 = 0;
 
 pub const WRITE: u8 = 1;

@@ -1,4 +1,6 @@
 // Sets of small numbers as bits, and the permissions that a scope may list.
+#![tactic(auto)]
+
 ghost use Rattle.std.specs.Prelude.{◌≡◌, ◌<◌};
 ghost use Rattle.base_definitions.specs.Bits.{with_bit};
 ghost use Rattle.access_record.specs.Table.{named};

@@ -1,4 +1,6 @@
 // The device record, its signed numbers and its cluster version.
+#![tactic(auto)]
+
 pub mod offsets;
 
 ghost use Rattle.std.specs.Prelude.{◌≡◌, ◌+◌, ◌<◌, ◌≤◌};

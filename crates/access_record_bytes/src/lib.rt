@@ -1,4 +1,6 @@
 // Bytes and signed numbers written into a record: each write returns the place after it.
+#![tactic(auto)]
+
 ghost use Rattle.std.specs.Prelude.{◌≡◌, ◌+◌, ◌≤◌, length, replicate};
 ghost use Rattle.base_definitions.specs.Lists.{fill};
 ghost use Rattle.base_integers.specs.Signed.{word_of};

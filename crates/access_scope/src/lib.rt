@@ -1,4 +1,6 @@
 // What one scope must do to grant a permission: hold it, allow the connection, and fit the key.
+#![tactic(auto)]
+
 ghost use Rattle.std.specs.Prelude.{◌≡◌, not, ◌||◌, ◌+◌, ◌<◌, ◌≤◌, eqb};
 ghost use Rattle.base_definitions.specs.Bits.{bit};
 ghost use Rattle.access_record.specs.Record.{bytes_at};

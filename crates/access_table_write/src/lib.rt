@@ -1,4 +1,6 @@
 // The device record written: the cluster version, and a table with no ACL yet.
+#![tactic(auto)]
+
 ghost use Rattle.std.specs.Prelude.{◌≡◌};
 ghost use Rattle.base_integers.specs.Signed.{word_of};
 ghost use Rattle.access_record.specs.Record.{table_bytes, with_cluster_version};

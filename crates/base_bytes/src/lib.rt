@@ -1,4 +1,6 @@
 // Bytes compared with no early exit.
+#![tactic(auto)]
+
 ghost use Rattle.std.specs.Prelude.{◌≡◌};
 ghost use Rattle.base_definitions.specs.Lists.{same_bytes};
 

@@ -1,1 +1,2 @@
 // Words that the definitions of every part share. No code.
+#![tactic(auto)]

@@ -1,4 +1,6 @@
 // Numbers in other widths: signed ones are 64-bit two's complement.
+#![tactic(auto)]
+
 pub mod as_u32;
 pub mod as_u64;
 pub mod as_usize;

@@ -1,4 +1,6 @@
 // The reading of a command for C, as the benchmark links it.
+#![tactic(auto)]
+
 ghost use Rattle.std.specs.Prelude.{cond, ◌≡◌, List, ℕ};
 ghost use Rattle.base_definitions.specs.Options.{or_else};
 ghost use Rattle.fields_lookup.specs.Views.{num_view, signed_view};

@@ -1,4 +1,6 @@
 // The store's calls under C names, for the measurements in bench/ alone: no host links them. Each but the check itself checks the store first.
+#![tactic(auto)]
+
 ghost use Rattle.std.specs.Prelude.{◌≡◌, ℕ};
 ghost use Rattle.store_block.specs.Decides.{Decides};
 ghost use Rattle.store_block.specs.Entry.{entry, Sized};

@@ -1,4 +1,6 @@
 // The box: the calls that hosts use. The answering call is here; the others stand in the crates that they are named from.
+#![tactic(auto)]
+
 ghost use Rattle.std.specs.Prelude.{◌≡◌, true, ◌≤◌, length};
 ghost use Rattle.access_record.specs.Table.{table_good};
 ghost use Rattle.access_record.specs.Record.{table_of};

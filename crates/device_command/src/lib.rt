@@ -1,4 +1,6 @@
 // Steps 3 to 10: what comes of a command that was signed right.
+#![tactic(auto)]
+
 ghost use Rattle.std.specs.Prelude.{◌≡◌, true, cond, ℕ, ◌≤◌, length};
 ghost use Rattle.std.proofs.Math.Option.{Option, none, some};
 ghost use Rattle.store_layout.specs.Store.{Good};

@@ -1,4 +1,6 @@
 // Format: the device record and the store of a new box.
+#![tactic(auto)]
+
 ghost use Rattle.protocol.specs.Format.{Told};
 ghost use Rattle.device_format.specs.FormatNumber.{format_number};
 

@@ -1,4 +1,6 @@
 // Steps 1 and 2: a whole message read, its sender looked up and its hmac verified; the command is left to the steps after them.
+#![tactic(auto)]
+
 ghost use Rattle.std.specs.Prelude.{◌≡◌, true, ◌≤◌, length, take};
 ghost use Rattle.std.proofs.Math.Option.{some};
 ghost use Rattle.base_integers.specs.Signed.{word_of};

@@ -9,7 +9,7 @@ use fields_value::Taken;
 use fields_wire_reader::{next_of, read_field};
 
 // Bit n of `has`: number n is there. Its number, or where its bytes start, and how many they are, stand at place n.
-#[derive(Drop)]
+#[derive(Clone, Copy)]
 pub struct Slots {
     pub ok: bool,
     pub has: u64,
@@ -18,7 +18,7 @@ pub struct Slots {
 }
 
 // What is stored of a field; or it is refused.
-#[derive(Drop)]
+#[derive(Clone, Copy)]
 pub struct Slot {
     pub ok: bool,
     pub value: u64,

@@ -1,4 +1,6 @@
 // Of two numbers or parts of a message, one sent after the other, the one that counts.
+#![tactic(auto)]
+
 ghost use Rattle.std.specs.Prelude.{cond, ◌≡◌};
 
 use fields_lookup::parts::{Num, Part, Signed};

@@ -11,21 +11,21 @@ use fields_rule::marked;
 use fields_schema::Kind;
 
 // A number, if there is one.
-#[derive(Drop)]
+#[derive(Clone, Copy)]
 pub struct Num {
     pub has: bool,
     pub value: u64,
 }
 
 // A signed number, if there is one.
-#[derive(Drop)]
+#[derive(Clone, Copy)]
 pub struct Signed {
     pub has: bool,
     pub value: i64,
 }
 
 // A part of the message, if there is one; start and len are 0 where there is none.
-#[derive(Drop)]
+#[derive(Clone, Copy)]
 pub struct Part {
     pub has: bool,
     pub start: usize,

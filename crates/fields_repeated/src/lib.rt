@@ -1,4 +1,6 @@
 // The next of a repeated field.
+#![tactic(auto)]
+
 ghost use Rattle.std.specs.Prelude.{◌≡◌};
 ghost use Rattle.fields_lookup.specs.Views.{Inside, no_part};
 ghost use Rattle.fields_repeated.specs.Values.{NextIs, no_span, span_of, no_word, word_of, NextPartIs, NextNumIs};

@@ -1,4 +1,6 @@
 // One field of a message of a kind: what the table makes of it.
+#![tactic(auto)]
+
 ghost use Rattle.std.specs.Prelude.{◌≡◌, List, ℕ, ◌+◌, ◌^◌, ◌<◌, true};
 ghost use Rattle.fields_wire_reader.specs.FieldAnswer.{EndsFound};
 ghost use Rattle.fields_schema.specs.Tree.{Item};

@@ -1,8 +1,10 @@
 // The kinds of message, and how each listed field of a kind is read.
+#![tactic(auto)]
+
 pub mod field_number;
 
 // The kinds from ReplyCommand on are for reading replies.
-#[derive(Drop)]
+#[derive(Clone, Copy)]
 pub enum Kind {
     Message,
     HmacAuth,
@@ -28,7 +30,7 @@ pub enum Kind {
 }
 
 // The enums whose values the documents name.
-#[derive(Drop)]
+#[derive(Clone, Copy)]
 pub enum Names {
     Priority,
     Algorithm,
@@ -38,7 +40,7 @@ pub enum Names {
 }
 
 // How a listed field is read. An enum that is judged later is an Int32; Opaque is bytes not looked into; a Float is its four bytes.
-#[derive(Drop)]
+#[derive(Clone, Copy)]
 pub enum Form {
     Int64,
     Int32,
@@ -52,7 +54,7 @@ pub enum Form {
 
 // What a field number means in a kind: not listed, refused if present, refused if sent twice, singular (of two the last counts, messages are merged), or
 // any number of times.
-#[derive(Drop)]
+#[derive(Clone, Copy)]
 pub enum Rule {
     Unlisted,
     Refused,

@@ -1,4 +1,6 @@
 // What the table does not list: values that an enum does not name, and numbers that a strict kind refuses.
+#![tactic(auto)]
+
 ghost use Rattle.std.specs.Prelude.{◌≡◌};
 ghost use Rattle.fields_schema.specs.Rules.{names_of, strict_of};
 ghost use Rattle.fields_schema.specs.Tree.{among};

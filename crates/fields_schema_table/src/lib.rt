@@ -1,4 +1,6 @@
 // The table in code.
+#![tactic(auto)]
+
 ghost use Rattle.std.specs.Prelude.{◌≡◌};
 ghost use Rattle.fields_schema.specs.Rules.{rule_of};
 

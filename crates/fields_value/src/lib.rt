@@ -1,4 +1,6 @@
 // The value of a field, read by the form that its rule gives it.
+#![tactic(auto)]
+
 ghost use Rattle.std.specs.Prelude.{◌≡◌, List, ℕ, ◌+◌, ◌≤◌, ◌<◌, length, take, drop};
 ghost use Rattle.fields_wire_reader.specs.FieldAnswer.{EndsFound, value_in};
 ghost use Rattle.fields_schema.specs.Tree.{of_int, of_bytes, of_fixed, decode};

@@ -1,4 +1,6 @@
 // Fields: a tag, and a value by its wire type.
+#![tactic(auto)]
+
 ghost use Rattle.std.specs.Prelude.{◌≡◌, ◌≤◌, length, drop};
 ghost use Rattle.fields_wire.specs.Wire.{value_of, read_field};
 ghost use Rattle.fields_wire_reader.specs.FieldAnswer.{means_found, EndsFound, number_in, next_in};
@@ -6,7 +8,7 @@ ghost use Rattle.fields_wire_reader.specs.FieldAnswer.{means_found, EndsFound, n
 use fields_wire::varint::{Varint, read_varint};
 
 // What stands at a place: a field of each wire type (0, 1, 2, 5), with the place past it; or no field.
-#[derive(Drop)]
+#[derive(Clone, Copy)]
 pub enum Found {
     Varint {
         number: u64,

@@ -1,5 +1,7 @@
 // Bytes written into a lent buffer. A message is written from its end to its front, so that the length of each part is known when its head
 // is due: each writer puts its bytes right before `at` and returns where they start. All other bytes of the buffer stay as they are.
+#![tactic(auto)]
+
 ghost use Rattle.std.specs.Prelude.{[], ◌∷◌, ◌≤◌, length};
 ghost use Rattle.fields_write_bytes.specs.Pushed.{Pushed, Starts};
 

@@ -1,4 +1,6 @@
 // Fields of bytes and of a float written into a lent buffer, each right before `at`, as the writers of bytes do.
+#![tactic(auto)]
+
 ghost use Rattle.std.specs.Prelude.{◌+◌, ◌^◌, ◌<◌, ◌≤◌, length};
 ghost use Rattle.fields_encoding.specs.Encode.{len_field, float_bytes, fix_field};
 ghost use Rattle.fields_write_bytes.specs.Pushed.{Pushed};

@@ -1,4 +1,6 @@
 // Tags, numbers and heads written into a lent buffer, each right before `at`, as the writers of bytes do.
+#![tactic(auto)]
+
 ghost use Rattle.std.specs.Prelude.{◌+◌, ◌^◌, ◌<◌, ◌≤◌, length};
 ghost use Rattle.base_integers.specs.Signed.{word_of};
 ghost use Rattle.fields_encoding.specs.Encode.{tag, int_field, head};

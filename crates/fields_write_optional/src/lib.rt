@@ -1,4 +1,6 @@
 // Fields that may be left out, written into a lent buffer, each right before `at`, as the writers of bytes do.
+#![tactic(auto)]
+
 ghost use Rattle.std.specs.Prelude.{◌+◌, ◌^◌, ◌<◌, ◌≤◌, length};
 ghost use Rattle.fields_schema.specs.Tree.{done};
 ghost use Rattle.fields_encoding.specs.Encode.{encode, int_o, int_if, raw_if};

@@ -1,4 +1,6 @@
 // Varints written into a lent buffer, each right before `at`, as the writers of bytes do.
+#![tactic(auto)]
+
 ghost use Rattle.std.specs.Prelude.{◌≡◌, ◌+◌, ◌≤◌, length};
 ghost use Rattle.fields_wire.specs.Varint.{varint_bytes};
 ghost use Rattle.fields_write_bytes.specs.Pushed.{Pushed};

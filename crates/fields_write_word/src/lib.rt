@@ -1,4 +1,6 @@
 // Words of 32 bits written into a lent buffer, each right before `at`, as the writers of bytes do.
+#![tactic(auto)]
+
 ghost use Rattle.std.specs.Prelude.{[], ◌∷◌, ◌^◌, ◌≤◌, ◌<◌, length};
 ghost use Rattle.fields_encoding.specs.Encode.{float_bytes};
 ghost use Rattle.fields_write_bytes.specs.Pushed.{Pushed};

@@ -1,4 +1,6 @@
 // Steps 8 and 9: whether a request is obeyed, by its body and by who asks.
+#![tactic(auto)]
+
 ghost use Rattle.std.specs.Prelude.{◌≡◌, true, List, ℕ, length};
 ghost use Rattle.access_record.specs.Table.{acl_of};
 ghost use Rattle.access_record.specs.Record.{table_of, Placed};

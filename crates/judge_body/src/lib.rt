@@ -1,4 +1,6 @@
 // Step 8: whether the body of a command is right for its operation.
+#![tactic(auto)]
+
 ghost use Rattle.std.specs.Prelude.{◌≡◌, List, ℕ, length, true};
 ghost use Rattle.fields_schema.specs.Tree.{guard};
 ghost use Rattle.protocol.specs.Judge.{broken, fault, present, key_value_good, change_good, range_good, types_good};

@@ -1,4 +1,6 @@
 // Document 01, "The order of judgement": the rules of step 8.
+#![tactic(auto)]
+
 ghost use Rattle.std.specs.Prelude.{◌≡◌, List, ℕ};
 ghost use Rattle.fields_schema.specs.Tree.{guard};
 ghost use Rattle.protocol.specs.Command.{KeyValue, Range, Body};

@@ -1,4 +1,6 @@
 // Document 01, "The order of judgement", step 9, and "Who may": the verdict on the permission that a request needs.
+#![tactic(auto)]
+
 ghost use Rattle.std.specs.Prelude.{◌≡◌, true};
 ghost use Rattle.access_record.specs.Table.{acl_of};
 ghost use Rattle.access_record.specs.Record.{table_of, Placed};

@@ -1,4 +1,6 @@
 // Readings as they are sent: a temperature in Celsius, a portion of a whole, each an f32 by its 32 bits.
+#![tactic(auto)]
+
 ghost use Rattle.std.specs.Prelude.{◌≡◌, ◌≤◌, ◌<◌};
 ghost use Rattle.std.specs.Float.{binary32};
 ghost use Rattle.std.specs.Float.Ieee.{to_bits};

@@ -1,4 +1,6 @@
 // The readings that a host lends, 134 bytes: up to four temperatures and two utilizations, each with its name.
+#![tactic(auto)]
+
 ghost use Rattle.std.specs.Prelude.{◌≡◌, true, ◌+◌, ◌≤◌, length, get_or};
 ghost use Rattle.log_readings.specs.Lent.{places_from, all_named, readings_good};
 ghost use Rattle.log_readings.specs.Places.{fits};

@@ -1,4 +1,6 @@
 // The samples of the readings that a host lends: the name at a place, and its value as it is sent.
+#![tactic(auto)]
+
 ghost use Rattle.std.specs.Prelude.{◌≡◌, ◌+◌, ◌≤◌, ◌<◌, length};
 ghost use Rattle.log_binary32.specs.Celsius.{sent_bits};
 ghost use Rattle.log_readings.specs.Lent.{bits_at, place_at, sample_of};

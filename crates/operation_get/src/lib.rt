@@ -1,4 +1,6 @@
 // Document 01, "What each does": GET, GETVERSION, GETNEXT and GETPREVIOUS over the lent store, the two last by document 02, CR 2.
+#![tactic(auto)]
+
 ghost use Rattle.std.specs.Prelude.{◌+◌, ◌≤◌};
 ghost use Rattle.base_definitions.specs.Lists.{first, only};
 ghost use Rattle.access_record.specs.Record.{Placed};

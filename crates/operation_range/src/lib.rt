@@ -1,4 +1,6 @@
 // The keys that a range asks for, document 01, "What each does", and document 02, CR 2: as places of the store, in the order of the reply.
+#![tactic(auto)]
+
 ghost use Rattle.std.specs.Prelude.{cond, ◌≡◌, ◌+◌, ◌-◌, ◌≤◌, length, take};
 ghost use Rattle.base_definitions.specs.Lists.{map_l, only};
 ghost use Rattle.access_record.specs.Record.{Placed};

@@ -1,4 +1,6 @@
 // Document 02, CR 2: places of the lent store whose keys a usable scope fits.
+#![tactic(auto)]
+
 ghost use Rattle.std.specs.Prelude.{◌≡◌, ◌+◌, ◌≤◌, ◌<◌, get_or};
 ghost use Rattle.store_block.specs.Entry.{no_entry};
 ghost use Rattle.store_layout.specs.Store.{entries_of, Good};
@@ -11,7 +13,7 @@ use access_verdict::verdict::permits;
 use store_find::entry_at;
 
 // Who asks to see keys: the place of the identity's ACL, and whether the connection is protected.
-#[derive(Drop)]
+#[derive(Clone, Copy)]
 pub struct Viewer {
     pub acl: usize,
     pub protected: bool,

@@ -1,4 +1,6 @@
 // GET, GETNEXT and GETPREVIOUS: an entry of the store, shown in a reply.
+#![tactic(auto)]
+
 ghost use Rattle.std.specs.Prelude.{cond, ◌≡◌, ◌≤◌, length};
 ghost use Rattle.protocol.specs.State.{State};
 ghost use Rattle.protocol.specs.Judge.{shown};

@@ -1,4 +1,6 @@
 // GET, GETVERSION, GETNEXT and GETPREVIOUS: what the store has under a key or beside it, shown in a reply.
+#![tactic(auto)]
+
 ghost use Rattle.std.specs.Prelude.{◌≡◌, ◌≤◌, length};
 ghost use Rattle.store_layout.specs.Store.{Good};
 ghost use Rattle.protocol.specs.State.{State};

@@ -1,4 +1,6 @@
 // GETLOG: what the host lends, how full the store is, and the limits, shown in a reply.
+#![tactic(auto)]
+
 ghost use Rattle.std.specs.Prelude.{◌≡◌, true, ◌≤◌, length};
 ghost use Rattle.store_layout.specs.Store.{Good};
 ghost use Rattle.log_readings.specs.Lent.{readings_good};

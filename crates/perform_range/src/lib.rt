@@ -1,4 +1,6 @@
 // GETKEYRANGE: the keys of a range that a viewer sees, shown in a reply.
+#![tactic(auto)]
+
 ghost use Rattle.std.specs.Prelude.{◌≡◌, [], ◌≤◌, length};
 ghost use Rattle.base_definitions.specs.Lists.{only};
 ghost use Rattle.access_record.specs.Record.{Placed};

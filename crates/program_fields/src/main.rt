@@ -1,4 +1,6 @@
 // Reads messages, one to a line of its input: the kind and the bytes in hex. Prints the listed fields of each, or 'refused'.
+#![tactic(auto)]
+
 use base_integers::signed;
 use fields_decode::nested::reads;
 use fields_rule::{Judged, judge};

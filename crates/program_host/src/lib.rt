@@ -1,4 +1,6 @@
 // The host of a day at a site: what it keeps and lends, and each of its events but the sending of a message (program_site lists them).
+#![tactic(auto)]
+
 mod beside;
 mod calls;
 mod rescue;

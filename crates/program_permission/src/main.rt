@@ -1,4 +1,6 @@
 // Prints the verdict for each cell of docs/VERDICTS.md, over a record that holds that page's table.
+#![tactic(auto)]
+
 ghost use Rattle.std.specs.Prelude.{◌<◌};
 
 use access_acl_write::{add_acl, add_scope};

@@ -1,5 +1,7 @@
 // Prints what is sent of f32s: of patterns (as Celsius, as Fahrenheit, as a utilization), of temperatures in decimal, of portions, and a sum over a sweep
 // of patterns. Then reads lent readings, 134 bytes each, and prints the name and value of each that is sent, or 'refused'.
+#![tactic(auto)]
+
 ghost use Rattle.std.specs.Prelude.{◌<◌, ◌≤◌};
 ghost use Rattle.log_readings.specs.Places.{Placed, Places};
 

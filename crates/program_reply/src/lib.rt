@@ -1,4 +1,6 @@
 // What a program shows of a reply: a row with its status and counts, and lines under it with what its body and its value part have.
+#![tactic(auto)]
+
 pub mod columns;
 mod contents;
 mod status;

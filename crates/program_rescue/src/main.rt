@@ -6,6 +6,8 @@
 //   keep                   the store as it is now is kept
 //   again                  the store is again what was kept
 //   rescue LENGTH LABEL    the rescue, with a report of so many bytes, each 255 before
+#![tactic(auto)]
+
 use libc::{STDIN_FILENO, STDOUT_FILENO};
 use program_reply::text::sha1;
 use program_words::{first, number, part, place_of, rest, unhex, word, write, write_hex};

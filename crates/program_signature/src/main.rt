@@ -1,4 +1,6 @@
 // SHA-1, HMAC and verification of published and outside vectors, a line for each.
+#![tactic(auto)]
+
 use libc::STDOUT_FILENO;
 use signature_hmac::Mac;
 use signature_sha1::Digest;

@@ -14,6 +14,8 @@
 //   end                                    the digests of store and device record
 //
 // KEY and INPUT are hex, or - for no bytes; READINGS are 134 bytes in hex; the other words are decimal.
+#![tactic(auto)]
+
 use access_record::Record;
 use access_record::offsets::RECORD_BYTES;
 use device::Response;

@@ -1,5 +1,7 @@
 // A day of a full store: 128 entries put in shuffled order, the 129th, deletes and refills. Each line shows the answer and the
 // Adler-32 of the whole store; tests/store_expected.py computes the same from document 01's table alone.
+#![tactic(auto)]
+
 ghost use Rattle.std.specs.Prelude.{◌≡◌, length};
 
 use libc::STDOUT_FILENO;

@@ -1,4 +1,6 @@
 // Lines of text that programs read and write: words, numbers in decimal, bytes in hex.
+#![tactic(auto)]
+
 ghost use Rattle.std.specs.Prelude.{◌<◌, ◌≤◌, ◌+◌, length};
 
 use base_integers::as_u64::wide;

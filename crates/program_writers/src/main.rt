@@ -1,4 +1,6 @@
 // Writes messages and prints their bytes in hex, one to a line.
+#![tactic(auto)]
+
 ghost use Rattle.std.specs.Prelude.{◌≡◌, ◌+◌, ◌≤◌, length};
 
 use fields_write_bytes::Maybe;

@@ -1,11 +1,13 @@
 // What the rules name: operations, status codes, types.
+#![tactic(auto)]
+
 pub mod auth_type;
 pub mod log_type;
 pub mod message_type;
 pub mod status;
 
 // The operations that are built, document 01, "What the box does".
-#[derive(Drop)]
+#[derive(Clone, Copy)]
 pub enum Operation {
     Noop,
     Get,

@@ -1,4 +1,6 @@
 // A connection, as the box keeps it from one message to the next.
+#![tactic(auto)]
+
 ghost use Rattle.std.specs.Prelude.{◌≡◌};
 ghost use Rattle.base_integers.specs.Signed.{word_of};
 ghost use Rattle.protocol.specs.State.{connected, with_sequence, with_closed};

@@ -1,1 +1,2 @@
 // The numbers that the documents give, shown of the definitions: laws alone.
+#![tactic(auto)]

@@ -1,5 +1,7 @@
 // The closing reply, document 01, "Replies". It is written from its end to its front into a local array, framed and copied once to the start of the
 // lent buffer; the rest of the buffer stays as it is.
+#![tactic(auto)]
+
 ghost use Rattle.std.specs.Prelude.{◌+◌, ◌≤◌, length};
 ghost use Rattle.fields_schema.specs.FieldNumbers.{Command-header, Header-connection_id};
 ghost use Rattle.base_integers.specs.Signed.{word_of};

@@ -1,4 +1,6 @@
 // The parts of a reply's command, document 01, "Replies", each written in front of what stands behind it.
+#![tactic(auto)]
+
 ghost use Rattle.std.specs.Prelude.{◌≡◌, ◌+◌, ◌≤◌, length};
 ghost use Rattle.fields_encoding.specs.Encode.{len_field, encode};
 ghost use Rattle.fields_write_bytes.specs.Pushed.{Pushed, maybe};
@@ -13,7 +15,7 @@ use fields_schema::field_number::{body, command, header, key_value, status};
 use fields_write_bytes::Maybe;
 
 // What a reply repeats: the identity, the connection's number, the request's sequence if it has one, and the reply's type.
-#[derive(Drop)]
+#[derive(Clone, Copy)]
 pub struct ReplyTo {
     pub identity: i64,
     pub connection: i64,

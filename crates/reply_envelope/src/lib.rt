@@ -1,4 +1,6 @@
 // What stands around a reply's command, document 01, "Replies": its signature, and the frame.
+#![tactic(auto)]
+
 ghost use Rattle.std.specs.Prelude.{◌≡◌, ◌∷◌, ◌++◌, ◌+◌, ◌^◌, ◌≤◌, ◌<◌, length};
 ghost use Rattle.base_integers.specs.Signed.{word_of};
 ghost use Rattle.signature_hmac.specs.Hmac.{hmac as hmac_of};

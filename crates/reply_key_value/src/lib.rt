@@ -1,5 +1,7 @@
 // Whole replies with a keyValue, document 01, "Replies". Each is written from its end to its front into a local array, signed, framed and copied once to
 // the start of the lent buffer; the rest of the buffer stays as it is.
+#![tactic(auto)]
+
 ghost use Rattle.std.specs.Prelude.{◌≤◌, length};
 ghost use Rattle.fields_write_bytes.specs.Pushed.{Starts};
 ghost use Rattle.protocol.specs.Judge.{key_value};

@@ -1,4 +1,6 @@
 // The reply of GETLOG, document 02, CR 1.
+#![tactic(auto)]
+
 ghost use Rattle.std.specs.Prelude.{◌≡◌, [], true, ◌≤◌, length};
 ghost use Rattle.fields_write_bytes.specs.Pushed.{Starts};
 ghost use Rattle.store_layout.specs.Store.{Good};

@@ -1,4 +1,6 @@
 // A log in the body of a reply, document 02, CR 1: each part that is asked for, written in front of what stands behind it.
+#![tactic(auto)]
+
 ghost use Rattle.std.specs.Prelude.{◌≡◌, true, ◌+◌, ◌^◌, ◌<◌, ◌≤◌, length};
 ghost use Rattle.fields_schema.specs.FieldNumbers.{GetLog-capacity, GetLog-limits};
 ghost use Rattle.fields_schema.specs.Tree.{map_o, guard, done};

@@ -1,4 +1,6 @@
 // The readings in a log, document 02, CR 1: utilizations and temperatures, each written in front of what stands behind it.
+#![tactic(auto)]
+
 ghost use Rattle.std.specs.Prelude.{◌+◌, ◌^◌, ◌<◌, ◌≤◌, length};
 ghost use Rattle.fields_schema.specs.FieldNumbers.{Utilization-value};
 ghost use Rattle.fields_schema.specs.Tree.{map_o, done};

@@ -1,4 +1,6 @@
 // One ACL of the Security part of a command, with its scopes: judged by the ACL rules and written into a device record.
+#![tactic(auto)]
+
 ghost use Rattle.std.specs.Prelude.{◌<◌};
 ghost use Rattle.base_definitions.specs.Lists.{map_l};
 ghost use Rattle.protocol.specs.Judge.{wanted_scope};

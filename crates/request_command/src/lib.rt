@@ -1,4 +1,6 @@
 // A command by value: what its fields say, and where its parts lie.
+#![tactic(auto)]
+
 ghost use Rattle.std.specs.Prelude.{◌≡◌, List, true, false, cond, ℕ};
 ghost use Rattle.fields_schema.specs.FieldNumbers.{Command-body};
 ghost use Rattle.fields_schema.specs.Tree.{done, map_o, sub_at, tree_in};
@@ -18,7 +20,7 @@ use request_parts::{Header, KeyValue, Range};
 use request_parts_merge::{merge_key_values, merge_ranges, no_header, no_key_value, no_range};
 
 // The parts of a body, each with whether it is there: keyValue, range, setup (its newClusterVersion), getLog (whether it is there) and security.
-#[derive(Drop)]
+#[derive(Clone, Copy)]
 pub struct Body {
     pub keyed: bool,
     pub entry: KeyValue,

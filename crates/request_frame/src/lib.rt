@@ -1,4 +1,6 @@
 // Frames, document 01, "Frame and fields": "Byte 0 is 46 hex; bytes 1-4 message length, 5-8 value length; then message, then value."
+#![tactic(auto)]
+
 ghost use Rattle.std.specs.Prelude.{◌≡◌, ◌≤◌, ◌<◌, get_or};
 ghost use Rattle.protocol.specs.Frame.{num4};
 ghost use Rattle.request_frame.specs.Framed.{FramedAs};

@@ -1,4 +1,6 @@
 // The hmacAlgorithm of each ACL of the Security part of a command.
+#![tactic(auto)]
+
 ghost use Rattle.std.specs.Prelude.{◌≡◌};
 ghost use Rattle.protocol.specs.Judge.{algorithms_good};
 ghost use Rattle.request_scope.specs.Stands.{StandsAcl, StandsSecurity, acl_in, acls_in};

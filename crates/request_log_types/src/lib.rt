@@ -1,4 +1,6 @@
 // The types that the GetLogs of a command ask for, as a set of bits.
+#![tactic(auto)]
+
 ghost use Rattle.std.specs.Prelude.{◌≡◌, List, ℕ, ◌<◌};
 ghost use Rattle.fields_schema.specs.FieldNumbers.{Body-get_log};
 ghost use Rattle.fields_schema.specs.Tree.{among, sub_at, tree_in};

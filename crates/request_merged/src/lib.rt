@@ -1,4 +1,6 @@
 // Messages of one number in a command or a body, merged.
+#![tactic(auto)]
+
 ghost use Rattle.fields_schema.specs.FieldNumbers.{Command-header, Body-key_value, Body-range, Body-setup};
 ghost use Rattle.fields_schema.specs.Tree.{done, sub_at, tree_in};
 ghost use Rattle.fields_lookup.specs.Views.{Inside, Only, Reads, bytes_at, tree_of};

@@ -1,4 +1,6 @@
 // A message by value: what step 1 reads of it.
+#![tactic(auto)]
+
 ghost use Rattle.std.specs.Prelude.{◌≡◌, List, ℕ, false, cond};
 ghost use Rattle.fields_schema.specs.FieldNumbers.{Message-hmac_auth};
 ghost use Rattle.fields_schema.specs.Tree.{done, sub_at, tree_in};

@@ -1,4 +1,6 @@
 // A number of a message where it may be absent.
+#![tactic(auto)]
+
 ghost use Rattle.std.specs.Prelude.{◌≡◌};
 ghost use Rattle.base_integers.specs.Signed.{word_of};
 ghost use Rattle.fields_lookup.specs.Views.{num_view, signed_view};

@@ -1,4 +1,6 @@
 // The header, the keyValue and the range of a command by value: what their fields say, and where their parts lie.
+#![tactic(auto)]
+
 ghost use Rattle.fields_lookup.specs.Views.{Inside, Reads, bytes_at, tree_of};
 ghost use Rattle.request_parts.specs.Views.{HeaderIs, KeyValueIs, RangeIs};
 
@@ -7,7 +9,7 @@ use fields_schema::Kind;
 use fields_schema::field_number::{header, key_value, range};
 
 // clusterVersion, connectionID, sequence and messageType.
-#[derive(Drop)]
+#[derive(Clone, Copy)]
 pub struct Header {
     pub cluster: Signed,
     pub connection: Signed,
@@ -16,7 +18,7 @@ pub struct Header {
 }
 
 // newVersion, key, dbVersion, tag, algorithm, metadataOnly and force.
-#[derive(Drop)]
+#[derive(Clone, Copy)]
 pub struct KeyValue {
     pub version: Part,
     pub key: Part,
@@ -28,7 +30,7 @@ pub struct KeyValue {
 }
 
 // startKey, endKey, startInclusive, endInclusive, maxReturned and reverse.
-#[derive(Drop)]
+#[derive(Clone, Copy)]
 pub struct Range {
     pub start: Part,
     pub end: Part,

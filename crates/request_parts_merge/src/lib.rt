@@ -1,4 +1,6 @@
 // No header, keyValue or range; and two of them merged.
+#![tactic(auto)]
+
 ghost use Rattle.std.specs.Prelude.{List, ℕ};
 ghost use Rattle.fields_schema.specs.Tree.{done};
 ghost use Rattle.fields_lookup.specs.Views.{Merges};

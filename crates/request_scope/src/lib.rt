@@ -1,4 +1,6 @@
 // One scope of the Security part of a command: read, and judged by the ACL rules.
+#![tactic(auto)]
+
 ghost use Rattle.std.specs.Prelude.{◌≡◌};
 ghost use Rattle.base_integers.specs.Signed.{word_of};
 ghost use Rattle.access_record.specs.Table.{offset_good};

@@ -1,4 +1,6 @@
 // The Security part of a command: judged by the ACL rules and written as a device record.
+#![tactic(auto)]
+
 ghost use Rattle.base_integers.specs.Signed.{word_of};
 ghost use Rattle.base_definitions.specs.Lists.{map_l};
 ghost use Rattle.protocol.specs.Judge.{wanted_acl, wanted, security_good};

@@ -1,4 +1,6 @@
 // HMAC (RFC 2104) with SHA-1, and the comparison of a digest that was sent.
+#![tactic(auto)]
+
 ghost use Rattle.std.specs.Prelude.{◌≡◌, ◌≤◌, length};
 ghost use Rattle.signature_hmac.specs.Hmac.{masked, keyed_words, hmac_answer, mac_answer, verified};
 

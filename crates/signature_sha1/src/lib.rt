@@ -1,4 +1,6 @@
 // SHA-1 (FIPS 180-4).
+#![tactic(auto)]
+
 ghost use Rattle.std.specs.Prelude.{◌≡◌, ◌++◌, ◌+◌, ◌<◌, ◌^◌, ◌%◌, length};
 ghost use Rattle.signature_sha1.specs.Sha1.{pad, overall, finish as finished, H0, bytes as bytes_of, sha1_words, sha1_answer, digest_answer};
 ghost use Rattle.signature_sha1.specs.PaddedBlocks.{marked_block, sized_block};

@@ -1,4 +1,6 @@
 // The compression function of SHA-1 (FIPS 180-4): the hash value after one block more.
+#![tactic(auto)]
+
 ghost use Rattle.std.specs.Prelude.{◌≡◌, ◌+◌, ◌<◌, ◌≤◌, length};
 ghost use Rattle.signature_sha1_compression.specs.Compression.{ROTL, Ch, Parity, Maj, turned};
 ghost use Rattle.signature_sha1_compression.specs.Compression.{word as word_at, rounds as rounds_of, compress as compressed};
@@ -8,7 +10,7 @@ ghost use Rattle.signature_sha1_compression.specs.Rounds.{Advances, Twenty};
 use base_integers::as_u32::wide;
 
 // The five words of a hash value, and of the working variables.
-#[derive(Drop)]
+#[derive(Clone, Copy)]
 pub struct State {
     pub a: u32,
     pub b: u32,

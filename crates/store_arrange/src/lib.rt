@@ -1,4 +1,6 @@
 // Blocks moved within a store, by an order table.
+#![tactic(auto)]
+
 ghost use Rattle.std.specs.Prelude.{◌≡◌, ◌+◌, ◌*◌, ◌≤◌, ◌<◌, length, take, drop};
 ghost use Rattle.store_order_table.specs.Table.{Names};
 ghost use Rattle.store_arrange.specs.Moves.{Distinct, arranged};

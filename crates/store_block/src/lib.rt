@@ -1,4 +1,6 @@
 // Entries in blocks of 512 bytes: the order of keys, and bytes compared, copied and tested for zero.
+#![tactic(auto)]
+
 pub mod offsets;
 
 ghost use Rattle.std.specs.Prelude.{◌≡◌, ◌+◌, ◌<◌, ◌≤◌, length, drop, replicate};

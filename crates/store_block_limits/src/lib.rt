@@ -1,4 +1,6 @@
 // The limits of what a block holds.
+#![tactic(auto)]
+
 ghost use Rattle.std.specs.Prelude.{◌≡◌, length};
 ghost use Rattle.store_block.specs.Decides.{Decides};
 ghost use Rattle.store_block.specs.Direct.{Small};

@@ -1,4 +1,6 @@
 // The sum of a block. The block is taken as eight rows of 64 bytes, so that the loops run on vectors of 16-bit numbers.
+#![tactic(auto)]
+
 ghost use Rattle.std.specs.Prelude.{◌≡◌, ◌<◌, ◌≤◌, length, take};
 ghost use Rattle.store_block.specs.Block.{sum_from};
 ghost use Rattle.store_block_sum.specs.Sum.{Column, Columns, last_four};

@@ -1,4 +1,6 @@
 // The sum that a block holds.
+#![tactic(auto)]
+
 ghost use Rattle.std.specs.Prelude.{◌≡◌, length};
 ghost use Rattle.store_block.specs.Block.{SumRight};
 ghost use Rattle.store_block.specs.Decides.{Decides};

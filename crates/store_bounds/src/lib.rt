@@ -1,4 +1,6 @@
 // The places in a lent store beside a bound.
+#![tactic(auto)]
+
 ghost use Rattle.std.specs.Prelude.{◌≡◌};
 ghost use Rattle.store_layout.specs.Store.{entries_of, Good};
 ghost use Rattle.store_layout.specs.Entries.{below, up_to};

@@ -1,4 +1,6 @@
 // The check of a lent store.
+#![tactic(auto)]
+
 ghost use Rattle.std.specs.Prelude.{◌≡◌, [], ◌*◌, length};
 ghost use Rattle.store_block.specs.Decides.{Decides};
 ghost use Rattle.store_layout.specs.Store.{blocks_in, store_good};

@@ -1,4 +1,6 @@
 // The entries of a lent store: where a key stands, and what stands at a place.
+#![tactic(auto)]
+
 ghost use Rattle.std.specs.Prelude.{◌≡◌};
 ghost use Rattle.store_layout.specs.Entries.{Sought, EntryAt, no_parts};
 

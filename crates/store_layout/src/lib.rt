@@ -1,18 +1,20 @@
 // A lent store: what calls on its entries answer, whether its size is right, and how many blocks are used.
+#![tactic(auto)]
+
 ghost use Rattle.std.specs.Prelude.{◌≡◌, length};
 ghost use Rattle.store_layout.specs.Store.{size_good, entries_of, Good};
 
 use store_block::offsets::BLOCK_BYTES;
 
 // Where a key stands, or would stand.
-#[derive(Drop)]
+#[derive(Clone, Copy)]
 pub enum KeyPlace {
     At(usize),
     Gap(usize),
 }
 
 // Where a part of an entry lies in the store.
-#[derive(Drop)]
+#[derive(Clone, Copy)]
 pub struct EntryPart {
     pub start: usize,
     pub len: usize,

@@ -1,4 +1,6 @@
 // The local read of a lent store.
+#![tactic(auto)]
+
 ghost use Rattle.std.specs.Prelude.{◌≡◌, ◌+◌, ◌*◌, ◌<◌, length, get_or};
 ghost use Rattle.store_block.specs.Entry.{no_entry};
 ghost use Rattle.store_layout.specs.Store.{blocks_in, entries_of, Good};

@@ -1,4 +1,6 @@
 // An order table: numbers of blocks in the order of their keys.
+#![tactic(auto)]
+
 ghost use Rattle.std.specs.Prelude.{◌≡◌, ◌∷◌, ◌-◌, ◌≤◌, ◌<◌, length, take, drop};
 ghost use Rattle.store_block.specs.Over.{over};
 ghost use Rattle.store_layout.specs.Entries.{find_in};
