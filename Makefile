@@ -12,11 +12,10 @@ build:
 install:
 	PREFIX='$(PREFIX)' DESTDIR='$(DESTDIR)' host/install
 
-# What takes seconds first; then the toolchain's gate, whose line is the last.
+# What takes seconds first; then the toolchain's gate and what is built of what it proved. The gate's line is the last.
 test:
 	tests/house
 	tests/expected
-	rt fmt --check
 	tests/gate
 
 # Half an hour at a foundry in a few seconds, by docs/SITES.md: timers of old and new firmware, a tablet and the office.
@@ -24,9 +23,8 @@ demo:
 	host/build
 	host/demo
 
-# The proved programs: a day at a site, and the outside vectors, with a line for each saying what was compared.
+# The programs, proved first: a day at a site, and the outside vectors, with a line for each saying what was compared.
 programs:
-	rt check program_site program_signature program_fields program_writers program_store program_rescue program_readings program_permission
 	tests/compare.py program_site "conformance/model.py, from document 01"
 	tests/compare.py program_fields "protoc's bytes and lines worked out by tests/fields.py"
 	tests/compare.py program_writers "protoc's bytes"
@@ -34,7 +32,8 @@ programs:
 	tests/compare.py program_rescue "tests/rescue.py, from the table of blocks and change request 6"
 	tests/compare.py program_readings "tests/readings.py, with exact fractions"
 	tests/compare.py program_permission "docs/VERDICTS.md"
-	target/bin/program_signature > target/signature_vectors.txt
+	mkdir -p target
+	cd crates/program_signature && rt run >../../target/signature_vectors.txt
 	tests/signature_vectors.py --compare target/signature_vectors.txt
 
 bench:

@@ -4,7 +4,7 @@
 set -eu
 cd "$(dirname "$0")/.."
 mkdir -p target/bench
-rt staticlib bench_fields >/dev/null
+tests/staticlib bench_fields
 if [ "${PLAIN_TWICE:-}" ]; then
     side=-DPLAIN_TWICE
 else

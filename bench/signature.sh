@@ -6,7 +6,7 @@ if [ $# -gt 0 ]; then
     before=$(realpath "$1")
 fi
 cd "$(dirname "$0")/.."
-rt staticlib c_digest >/dev/null
+tests/staticlib c_digest_c
 mkdir -p target/bench
 if [ $# -gt 0 ]; then
     objcopy --redefine-sym signature_sha1=before_signature_sha1 --redefine-sym signature_hmac=before_signature_hmac "$before" target/bench/before.a

@@ -2,7 +2,7 @@
 
    The box keeps nothing between calls: the host lends the store, the device record, the connection and its readings to each call. A call always
    returns, takes no memory from the heap and calls nothing outside but memcpy and memset. What each call answers, and every lent
-   byte after it, is proved for every input; the contracts stand in crates/c_abi/src/lib.rt.
+   byte after it, is proved for every input; the contracts stand in crates/c_abi_c/src/lib.rt.
 
    The host guarantees only this:
    - each pointer has at least the bytes that are stated of it. NULL is fine where a length is passed beside it and is 0;
@@ -11,7 +11,7 @@
    - no other thread uses a lent range while the call runs.
    All else is judged by the call: any bytes may be lent.
 
-   Link target/staticlib/libc_abi.a ('rt staticlib c_abi'), for x86-64 Linux. */
+   Link target/staticlib/libc_abi.a ('tests/staticlib' builds it), for x86-64 Linux. */
 #ifndef RIDGELADLE_H
 #define RIDGELADLE_H
 

@@ -1,5 +1,5 @@
 #!/usr/bin/env python3
-"""compare.py PROGRAM SOURCE: runs target/bin/PROGRAM and says of each line that it writes whether it is as expected, and against what.
+"""compare.py PROGRAM SOURCE: proves and runs crates/PROGRAM and says of each line that it writes whether it is as expected, and against what.
 
 The expected lines are those of crates/PROGRAM/stdout, which the scripts beside this one make (tests/expected holds them to it).
 """
@@ -14,7 +14,7 @@ def main():
     program, source = sys.argv[1:]
     crate = TOP / "crates" / program
     given = (crate / "stdin").read_bytes() if (crate / "stdin").exists() else b""
-    run = subprocess.run([TOP / "target" / "bin" / program], input=given, stdout=subprocess.PIPE, check=True)
+    run = subprocess.run(["rt", "run"], cwd=crate, input=given, stdout=subprocess.PIPE, check=True)
     lines = run.stdout.decode().splitlines()
     wanted = (crate / "stdout").read_text().splitlines()
     wrong = abs(len(lines) - len(wanted))

@@ -1,4 +1,3 @@
 pub mod Permissions
 pub mod Permission
 pub mod Granted
-pub mod VerdictLaws

@@ -1,11 +1,6 @@
 pub mod Offsets
 pub mod Table
 pub mod Record
-pub mod OffsetLaws
 pub mod Places
-pub mod TableLaws
-pub mod LookupLaws
 pub mod Mask
-pub mod MaskLaws
 pub mod Roomy
-pub mod ReadbackLaws

@@ -5,9 +5,9 @@ use Rattle.std.proofs.Math.Path.{ap}
 use Prim.Native.Nat.{ℕ, zero, suc, ◌+◌, ◌-◌, ◌≤◌, ◌<◌}
 use Rattle.std.proofs.Math.Nat.{add-sub_cancel_left}
 use Rattle.base_definitions.specs.Lists.{same_bytes}
-use Rattle.base_definitions.specs.ListLaws.{same_bytes-is}
+use Rattle.base_definitions.proofs.ListLaws.{same_bytes-is}
 use Rattle.access_record.specs.Record.{bytes_at}
-use Rattle.access_record.specs.TableLaws.{length-bytes_at, bytes-part}
+use Rattle.access_record.proofs.TableLaws.{length-bytes_at, bytes-part}
 use Rattle.access_permission.specs.Permission.{fits_at}
 
 pub fits-empty : (l : List ℕ) (a n o : ℕ) (k : List ℕ) → n ≡ 0 → true ≡ fits_at (bytes_at l a n) o k

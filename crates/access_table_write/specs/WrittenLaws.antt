@@ -7,7 +7,7 @@ use Rattle.base_definitions.specs.BigEndian.{be32}
 use Rattle.base_definitions.specs.Lists.{fill}
 use Rattle.access_record.specs.Record.{word_bytes, scope_bytes, scopes_bytes, acl_head, acl_bytes, acls_bytes, table_head, table_bytes, table_of}
 use Rattle.access_record.specs.Roomy.{Roomy, RoomyAcl, RoomyAcls, RoomyTable}
-use Rattle.access_record.specs.ReadbackLaws.{length-word, length-fill, length-scope_bytes, length-scopes_bytes, length-acls_bytes, roomy-table, table-back}
+use Rattle.access_record.proofs.ReadbackLaws.{length-word, length-fill, length-scope_bytes, length-scopes_bytes, length-acls_bytes, roomy-table, table-back}
 use Rattle.access_record_bytes.specs.Wrote.{put, Wrote}
 use Rattle.access_table_write.specs.Write.{empty_table, put_acl, put_scope, put_scopes, put_acls}
 use Rattle.access_table_write.specs.FillLaws.{fill-past, fill_more, fill-zeros, fill-fill, put-past, set_past}

@@ -3,7 +3,7 @@ use Rattle.std.specs.Prelude.{◌≡◌, refl, false, List, ℕ, ◌+◌, ◌<�
 use Rattle.std.proofs.Common.{sym, ap, ◌∙◌, arith, ext_get_or, below_more, eq-eqb, eqb-true}
 use Rattle.std.specs.Int.Bits.{bit_or, bit_xor, or_add_and, xor_add_and, xor_self}
 use Rattle.std.proofs.lemmas.Nat.{and_le_l, and_le_r}
-use Rattle.base_definitions.specs.ListLaws.{same_bytes-is}
+use Rattle.base_definitions.proofs.ListLaws.{same_bytes-is}
 use Rattle.base_definitions.specs.Lists.{same_bytes}
 use Rattle.base_bytes.specs.Agree.{Agree}
 

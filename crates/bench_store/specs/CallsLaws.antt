@@ -9,7 +9,7 @@ use Rattle.store_layout.specs.declared.KeyPlace.{KeyPlace}
 use Rattle.store_layout.specs.declared.PutAnswer.{PutAnswer}
 use Rattle.store_layout.specs.declared.DeleteAnswer.{DeleteAnswer}
 use Rattle.store_layout.specs.Store.{entries_of, store_good, Good}
-use Rattle.store_layout.specs.CheckLaws.{store-decides}
+use Rattle.store_layout.proofs.CheckLaws.{store-decides}
 use Rattle.store_layout.specs.Entries.{Sought, find_in, place_of, put_answer, put_store, delete_answer, delete_store}
 use Rattle.store_write.specs.ChangeLaws.{unfit}
 use Rattle.bench_store.specs.Calls.{find_of, left, put_number, delete_number, put_of, delete_of}

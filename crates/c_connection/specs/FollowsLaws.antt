@@ -9,7 +9,7 @@ use Rattle.protocol.specs.State.{State, table}
 use Rattle.protocol.specs.Command.{Header, Command, command_of}
 use Rattle.protocol.specs.Judge.{judge, above_last}
 use Rattle.protocol.specs.Passes.{Passes}
-use Rattle.protocol.specs.AcceptedLaws.{counted, not-counted, readings-stay}
+use Rattle.protocol.proofs.AcceptedLaws.{counted, not-counted, readings-stay}
 use Rattle.protocol.specs.Frame.{Framing, more, closes, whole, frame_of}
 use Rattle.protocol.specs.Reading.{Reading, closing, undecodable, read}
 use Rattle.protocol.specs.Answer.{Reply, reply, Outcome, refused, taking, reading, respond, serve, answer}

@@ -10,7 +10,7 @@ use Rattle.std.proofs.Math.Seq.{get_or-set_same, get_or-set_other, get_or-append
 use Rattle.fields_schema.specs.Tree.{guard}
 use Rattle.base_definitions.specs.BigEndian.{be32}
 use Rattle.access_record.specs.Record.{half_at, word_at, word_bytes, flag, table_of, with_cluster_version}
-use Rattle.access_record.specs.ReadbackLaws.{length-word, version-set}
+use Rattle.access_record.proofs.ReadbackLaws.{length-word, version-set}
 use Rattle.protocol.specs.State.{Connection, connected, with_closed, with_sequence}
 use Rattle.c_connection.specs.Layout.{yes, connection_at, connected_bytes, is_last, heard_bytes, hears, closes, becomes}
 use Rattle.c_connection.specs.Follows.{Follows}

@@ -1,6 +1,4 @@
-// The calls of `signature_hmac` for C: the benchmark links them, and `c_abi` passes them on to hosts.
-#![tactic(auto)]
-
+// The calls of `signature_hmac` for C: `c_digest_c` exports them to the benchmark, and `c_abi` passes them on to hosts.
 ghost use Rattle.signature_sha1.specs.Sha1.{sha1_answer};
 ghost use Rattle.signature_hmac.specs.Hmac.{hmac_answer};
 ghost use Rattle.c_digest.specs.Written.{Written};
@@ -9,8 +7,7 @@ use signature_hmac::Mac;
 use signature_sha1::Digest;
 
 // 0 and the digest; or 1, and nothing is written.
-#[unsafe(no_mangle)]
-pub extern "C" fn signature_sha1(text: &[u8], digest: &mut [u8; 20]) -> u32
+pub fn signature_sha1(text: &[u8], digest: &mut [u8; 20]) -> u32
     ensures { Written (sha1_answer text.now) digest.old result digest.new }
 {
     match signature_sha1::sha1(text) {
@@ -23,8 +20,7 @@ pub extern "C" fn signature_sha1(text: &[u8], digest: &mut [u8; 20]) -> u32
 }
 
 // 0 and the digest; or 1 for the key, else 2 for the text, and nothing is written.
-#[unsafe(no_mangle)]
-pub extern "C" fn signature_hmac(key: &[u8], text: &[u8], digest: &mut [u8; 20]) -> u32
+pub fn signature_hmac(key: &[u8], text: &[u8], digest: &mut [u8; 20]) -> u32
     ensures { Written (hmac_answer key.now text.now) digest.old result digest.new }
 {
     match signature_hmac::hmac(key, text) {

@@ -1,2 +1,1 @@
 pub mod CallAnswered
-pub mod CallLaws

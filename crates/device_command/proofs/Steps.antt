@@ -30,9 +30,9 @@ use Rattle.protocol.specs.Answer.{Reply, reply, respond}
 use Rattle.protocol.specs.Box.{box, acl_at, decide, judged, sequence_of, command_reply, type_of}
 use Rattle.request_command.specs.declared.Request.{Request}
 use Rattle.request_parts.specs.Views.{header_view}
-use Rattle.fields_encoding.specs.BasicLaws.{never}
+use Rattle.fields_encoding.proofs.BasicLaws.{never}
 use Rattle.judge_header.specs.HeaderFault.{Heard, header_fault, header_there, id_in, sequence_in}
-use Rattle.judge_header.specs.RestLaws.{judge-by}
+use Rattle.judge_header.proofs.RestLaws.{judge-by}
 use Rattle.judge_header.specs.Rest.{served, rest, sequence_heard, type_in}
 use Rattle.device_command.specs.declared.Heading.{Heading}
 use Rattle.device_command.specs.Commands.{HeadingOf}

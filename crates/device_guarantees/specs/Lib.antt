@@ -1,2 +1,1 @@
 pub mod HostCall
-pub mod HostCallLaws

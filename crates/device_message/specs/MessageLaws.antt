@@ -11,19 +11,19 @@ use Rattle.signature_hmac.specs.HmacLaws.{verified-exactly}
 use Rattle.access_record.specs.Table.{acl_of, place_of}
 use Rattle.access_record.specs.Record as access
 use Rattle.access_record.specs.Record.{table_of, bytes_at, Placed}
-use Rattle.access_record.specs.TableLaws.{acl_of-at, place-of, length-bytes_at}
+use Rattle.access_record.proofs.TableLaws.{acl_of-at, place-of, length-bytes_at}
 use Rattle.access_record.specs.declared.IdentityPlace.{IdentityPlace}
 use Rattle.access_record.specs.declared.IdentityPlace.TheVariants.{At, Nobody}
-use Rattle.fields_encoding.specs.BasicLaws.{never}
+use Rattle.fields_encoding.proofs.BasicLaws.{never}
 use Rattle.fields_write_bytes.specs.Pushed.{Starts}
-use Rattle.fields_lookup.specs.SliceLaws.{slice_at}
+use Rattle.fields_lookup.proofs.SliceLaws.{slice_at}
 use Rattle.fields_lookup.specs.Views.{bytes_at as bytes_in}
 use Rattle.request_message.specs.declared.Sealed.{Sealed}
 use Rattle.request_message.specs.Messages.{sealed_view}
 use Rattle.protocol.specs.StatusCode.{CONNECTION_TERMINATED}
 use Rattle.protocol.specs.State.{State, table}
 use Rattle.protocol.specs.Reading as reading
-use Rattle.base_definitions.specs.ListLaws.{same_bytes-true, same_bytes-self}
+use Rattle.base_definitions.proofs.ListLaws.{same_bytes-true, same_bytes-self}
 use Rattle.base_definitions.specs.Lists.{same_bytes}
 use Rattle.protocol.specs.Reading.{Envelope, envelope, read_message, reading_by, decoded, verified, opened}
 use Rattle.protocol.specs.Answer.{Reply, respond}

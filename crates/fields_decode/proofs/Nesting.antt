@@ -13,12 +13,12 @@ use Rattle.fields_wire_reader.specs.declared.Found.{Found}
 use Rattle.fields_schema.specs.Rules.{rule_of, strict_of}
 use Rattle.fields_schema.specs.Tree.{map_o, then_o, is_some, Content, c_int, c_raw, c_fix, c_msg, Item, item, decode, find, add, by_rule, step, items, items_o, level}
 use Rattle.fields_schema.specs.Tree.{Tree, sub, open_one, open_all, listed}
-use Rattle.fields_schema.specs.DepthLaws.{listed-opens}
+use Rattle.fields_schema.proofs.DepthLaws.{listed-opens}
 use Rattle.fields_value.specs.Taken.{means_taken, InsideTaken}
 use Rattle.fields_rule.specs.Judged.{Marks, Takes, Judges}
 use Rattle.fields_decode.specs.Nested.{opens_taken}
 use Rattle.fields_schema.specs.declared.Kind.{Kind}
-use Rattle.fields_schema.specs.OptionLaws.{none_of}
+use Rattle.fields_schema.proofs.OptionLaws.{none_of}
 use Rattle.fields_schema.specs.declared.Rule.{Rule}
 use Rattle.fields_schema.specs.declared.Rule.TheVariants.{Unlisted, Refused, Once, Single, Repeated}
 use Rattle.fields_value.specs.declared.Taken.{Taken}

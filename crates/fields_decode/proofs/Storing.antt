@@ -18,14 +18,14 @@ use Rattle.fields_value.specs.Taken.{means_taken, InsideTaken}
 use Rattle.fields_rule.specs.Judged.{is_single, Marks, Takes, Judges}
 use Rattle.fields_decode.specs.Slots.{find_last, Sized, slot_of, Shows, Holds, Tells}
 use Rattle.fields_schema.specs.declared.Kind.{Kind}
-use Rattle.fields_schema.specs.OptionLaws.{nothing-some}
+use Rattle.fields_schema.proofs.OptionLaws.{nothing-some}
 use Rattle.fields_value.specs.declared.Taken.{Taken}
 use Rattle.fields_value.specs.declared.Taken.TheVariants.{Number, Slice, Fixed, Inside, Wrong}
 use Rattle.fields_rule.specs.declared.Judged.{Judged}
 use Rattle.fields_rule.specs.declared.Judged.TheVariants.{Refuse, Skip, Take}
 use Rattle.fields_decode.specs.declared.slots.Slot.{Slot}
 use Rattle.fields_decode.specs.declared.slots.Slots.{Slots}
-use Rattle.base_definitions.specs.BitsLaws.{no-bit}
+use Rattle.base_definitions.proofs.BitsLaws.{no-bit}
 use Rattle.fields_decode.proofs.Walking.{Walk, walk_start, walk_end, walk_none, walk-refuse, walk-on}
 
 pub no-marks : (k : Kind) → Marks k 0 []

@@ -1,16 +1,6 @@
 pub mod Encode
-pub mod ExampleLaws
-pub mod BasicLaws
 pub mod Depth
-pub mod DepthLaws
 pub mod Known
-pub mod BackLaws
 pub mod Cost
-pub mod CostLaws
 pub mod AllFit
-pub mod FitsLaws
-pub mod LookUpLaws
 pub mod FitsTest
-pub mod FitsTestLaws
-pub mod SampleLaws
-pub mod CanonicalLaws

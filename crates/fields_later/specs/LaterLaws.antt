@@ -4,7 +4,7 @@ use Rattle.std.proofs.Common.{sym, ap, ◌∙◌, subst}
 use Rattle.std.proofs.Math.Option.{Option}
 use Rattle.base_integers.specs.Signed.{word_of}
 use Rattle.fields_schema.specs.Tree.{guard, Tree, later, join, int_at, raw_at}
-use Rattle.fields_schema.specs.MergedLaws.{int-join, raw-join}
+use Rattle.fields_schema.proofs.MergedLaws.{int-join, raw-join}
 use Rattle.fields_lookup.specs.Views.{num_view, signed_view, bytes_at, part_view}
 use Rattle.fields_lookup.specs.declared.parts.Num.{Num}
 use Rattle.fields_lookup.specs.declared.parts.Part.{Part}

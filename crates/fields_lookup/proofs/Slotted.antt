@@ -15,7 +15,7 @@ use Rattle.base_definitions.specs.Bits.{bit}
 use Rattle.fields_rule.specs.Judged.{is_single, Sole}
 use Rattle.fields_decode.specs.Slots.{find_last, Sized, Holds, Tells, Shows}
 use Rattle.fields_schema.specs.declared.Kind.{Kind}
-use Rattle.fields_schema.specs.OptionLaws.{nothing-some, none_of}
+use Rattle.fields_schema.proofs.OptionLaws.{nothing-some, none_of}
 use Rattle.fields_schema.specs.declared.Form.{Form}
 use Rattle.fields_schema.specs.declared.Form.TheVariants.{Int64, Int32, Named, Flag, Bytes, Opaque, Float, Nested}
 use Rattle.fields_schema.specs.declared.Rule.{Rule}
@@ -23,7 +23,7 @@ use Rattle.fields_schema.specs.declared.Rule.TheVariants.{Unlisted, Refused, Onc
 use Rattle.fields_decode.specs.declared.slots.Slots.{Slots}
 use Rattle.fields_lookup.specs.Views.{tree_of, bytes_at, no_part, Inside, Lies, Level, SlotInside, Singular, is_numeric, is_number, Alone, NumIs, Sub, PartIs}
 use Rattle.fields_lookup.specs.Level.{Is, Decodes, int_c, raw_c, sub_c, IsMessage}
-use Rattle.fields_lookup.specs.LevelLaws.{all_more, level_all, level-decodes, level-once, last-there, sole-last, level-of, int-look, raw-look, sub-look, there-look, open-message}
+use Rattle.fields_lookup.proofs.LevelLaws.{all_more, level_all, level-decodes, level-once, last-there, sole-last, level-of, int-look, raw-look, sub-look, there-look, open-message}
 use Rattle.fields_lookup.specs.declared.parts.Part.{Part}
 
 -- the forms ------------------------------------------------------------------------------------

@@ -1,4 +1,2 @@
 pub mod Views
 pub mod Level
-pub mod LevelLaws
-pub mod SliceLaws

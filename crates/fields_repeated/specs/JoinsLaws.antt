@@ -4,7 +4,7 @@ use Rattle.std.proofs.Common.{arith, sym, ap, ◌∙◌, subst}
 use Rattle.fields_wire.specs.Wire.{fields_of, fields_in}
 use Rattle.fields_schema.specs.Rules.{rule_of}
 use Rattle.fields_schema.specs.Tree.{Tree, done, join, sub_at, tree_in, cons_if}
-use Rattle.fields_schema.specs.MergedLaws.{join-assoc, join-done, join-all, sub-all}
+use Rattle.fields_schema.proofs.MergedLaws.{join-assoc, join-done, join-all, sub-all}
 use Rattle.fields_schema.specs.Merged.{join_all}
 use Rattle.fields_schema.specs.PutIn.{Has}
 use Rattle.fields_schema.specs.declared.Kind.{Kind}

@@ -20,8 +20,8 @@ use Rattle.fields_schema.specs.declared.Rule.{Rule}
 use Rattle.fields_schema.specs.declared.Rule.TheVariants.{Unlisted, Refused, Once, Single, Repeated}
 use Rattle.fields_lookup.specs.Views.{Reads, tree_of}
 use Rattle.fields_repeated.specs.Values.{values_of, or_nil, values_in, parts_of, numbers_of, parts_in, numbers_in, WellFramed}
-use Rattle.fields_schema.specs.OptionLaws.{nothing-some, then_some}
-use Rattle.fields_lookup.specs.LevelLaws.{level-of}
+use Rattle.fields_schema.proofs.OptionLaws.{nothing-some, then_some}
+use Rattle.fields_lookup.proofs.LevelLaws.{level-of}
 use Rattle.fields_repeated.specs.Repeated.{AllAmong, trees_of, AllRead}
 
 -- what the items of a number hold, in order

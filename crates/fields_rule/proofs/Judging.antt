@@ -15,7 +15,7 @@ use Rattle.fields_schema.specs.Rules.{Table, end, row, look, table_of, rule_of, 
 use Rattle.fields_schema.specs.Tree.{is_some, Content, Item, item, decode, find, add, by_rule, step, later}
 use Rattle.base_definitions.specs.Bits.{bit}
 use Rattle.fields_rule.specs.Judged.{with_again, with_mark, is_single, listed_by, Marks, unlisted_of, field_in, Takes, Judges}
-use Rattle.fields_schema.specs.OptionLaws.{none_of}
+use Rattle.fields_schema.proofs.OptionLaws.{none_of}
 use Rattle.fields_rule.specs.SoleLaws.{find-last, sole-snoc}
 use Rattle.fields_schema.specs.declared.Kind.{Kind}
 use Rattle.fields_schema.specs.declared.Kind.TheVariants.{Message, HmacAuth, Command, Header, Body, KeyValue, Range, Setup, GetLog, Security, Acl, Scope, ReplyCommand, ReplyBody, ReplyRange, ReplyGetLog, Utilization, Temperature, Capacity, Limits, Status}
@@ -28,7 +28,7 @@ use Rattle.fields_rule.specs.declared.Listed.{Listed}
 use Rattle.fields_rule.specs.declared.Listed.TheVariants.{Not, Never, As}
 use Rattle.fields_rule.specs.declared.Judged.{Judged}
 use Rattle.fields_rule.specs.declared.Judged.TheVariants.{Refuse, Skip}
-use Rattle.base_definitions.specs.BitsLaws.{set-bit, bits_below}
+use Rattle.base_definitions.proofs.BitsLaws.{set-bit, bits_below}
 
 or-cond : (t b : Bool) → (t || b) ≡ cond t true b
 or-cond true b = refl

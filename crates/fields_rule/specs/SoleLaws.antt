@@ -3,7 +3,7 @@ use Rattle.std.specs.Prelude.{ℕ, ◌≡◌, refl, List, [], ◌∷◌, ◌++�
 use Rattle.std.proofs.Common.{sym, ap, ◌∙◌}
 use Rattle.std.proofs.Math.Option.{none, some}
 use Rattle.fields_schema.specs.Tree.{Content, Item, item, find, later}
-use Rattle.fields_schema.specs.OptionLaws.{nothing-some}
+use Rattle.fields_schema.proofs.OptionLaws.{nothing-some}
 use Rattle.fields_rule.specs.Judged.{Sole}
 
 pub find-last : (m n : ℕ) (c : Content) (is : List Item) → find m (is ++ (item n c ∷ [])) ≡ later (find m is) (cond (eqb m n) (some c) none)

@@ -1,4 +1,2 @@
 pub mod Pushed
 pub mod Copying
-pub mod PushedLaws
-pub mod TreePartsLaws

@@ -4,9 +4,9 @@ use Rattle.std.proofs.Common.{arith, add-one, sym, ap, ◌∙◌, subst, length-
 use Rattle.fields_wire.specs.Varint.{varint_up, varint_bytes}
 use Rattle.fields_wire.specs.VarintLaws.{varint-one, varint-more, varint-ten, varint-length}
 use Rattle.fields_encoding.specs.Encode.{tag}
-use Rattle.fields_encoding.specs.CostLaws.{tag-five}
+use Rattle.fields_encoding.proofs.CostLaws.{tag-five}
 use Rattle.fields_write_bytes.specs.Pushed.{Pushed}
-use Rattle.fields_write_bytes.specs.PushedLaws.{again, copying-none, copying-next, copying-all}
+use Rattle.fields_write_bytes.proofs.PushedLaws.{again, copying-none, copying-next, copying-all}
 use Rattle.fields_write_bytes.specs.Copying.{Copying}
 use Rattle.fields_write_varint.specs.Groups.{Grouping}
 

@@ -11,7 +11,7 @@ use Rattle.fields_lookup.specs.declared.parts.Part.{Part}
 use Rattle.request_command.specs.declared.Body.{Body}
 use Rattle.request_command.specs.Views.{BodyLies, body_view}
 use Rattle.protocol.specs.Judge.{key_value_in}
-use Rattle.fields_lookup.specs.SliceLaws.{slice_at}
+use Rattle.fields_lookup.proofs.SliceLaws.{slice_at}
 
 abbrev cut : List ℕ → Part → List ℕ
 cut s p = take (p.start + p.len - p.start) (drop p.start s)

@@ -2,7 +2,7 @@
 use Rattle.std.specs.Prelude.{◌≡◌, Bool, true, false, not, ◌&&◌, List, ℕ, ◌≤◌, leb, length}
 use Rattle.std.proofs.Math.Option.{Option, none, some}
 use Rattle.std.proofs.Common.{arith, leb-true}
-use Rattle.access_record.specs.TableLaws.{both-fst, both-snd}
+use Rattle.access_record.proofs.TableLaws.{both-fst, both-snd}
 use Rattle.protocol.specs.declared.Operation.TheVariants.{GetKeyRange, Put}
 use Rattle.base_definitions.specs.Lists.{is_empty}
 use Rattle.base_definitions.specs.Options.{or_else}

@@ -9,7 +9,7 @@ use Rattle.protocol.specs.declared.Permission.{Permission}
 use Rattle.protocol.specs.declared.Permission.TheVariants.{Free, Key, Any}
 use Rattle.protocol.specs.Command.{Body}
 use Rattle.protocol.specs.Operation.{asked_by}
-use Rattle.protocol.specs.OperationLaws.{asked-all}
+use Rattle.protocol.proofs.OperationLaws.{asked-all}
 use Rattle.protocol.specs.Judge.{key_value_in, permitted}
 use Rattle.judge_permission.specs.Numbered.{numbered, asked_numbered}
 

@@ -13,8 +13,8 @@ use lib.Ieee.Fits.{down_pos, round_is}
 use lib.Ieee.Exact.{HasValue, odd_sign}
 use lib.Ieee.Nearest.{closest, closest_same, div_same}
 use Rattle.log_binary32.specs.Binary32.{pattern, rounded}
-use Rattle.log_binary32.specs.DigitsLaws.{size_exact, pattern-logic}
-use Rattle.log_binary32.specs.NearestLaws.{kept-le, kept-ge}
+use Rattle.log_binary32.proofs.DigitsLaws.{size_exact, pattern-logic}
+use Rattle.log_binary32.proofs.NearestLaws.{kept-le, kept-ge}
 
 -- ---- how many digits are dropped of q * 2 ^ k
 -- the pattern of n units, where n is q * 2 ^ k

@@ -6,7 +6,7 @@ use Rattle.std.proofs.Math.Option.{none, some}
 use borrow.Author.Tests.{lt-leb, le-leb, leb-true, leb-false, eqb-true}
 use Rattle.log_binary32.specs.Binary32.{finite}
 use Rattle.log_binary32.specs.Celsius.{celsius_of, finite_of, sent_of, sent_bits}
-use Rattle.log_binary32.specs.CelsiusLaws.{celsius-word, sent-finite}
+use Rattle.log_binary32.proofs.CelsiusLaws.{celsius-word, sent-finite}
 use Rattle.log_readings.specs.Lent.{bits_at, lent_at, place_at, places_from, temperatures, utilizations, name_good, all_named, readings_good, temperature_sample, utilization_sample, sample_of}
 use Rattle.log_readings.specs.Places.{Placed, Places, name_length, fits}
 

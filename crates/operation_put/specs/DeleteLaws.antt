@@ -7,9 +7,9 @@ use Rattle.store_block.specs.Entry.{Entry}
 use Rattle.store_layout.specs.declared.KeyPlace as found
 use Rattle.store_layout.specs.Store.{entries_of, Good}
 use Rattle.store_layout.specs.Entries.{find_in, delete_store}
-use Rattle.store_layout.specs.KeptLaws.{delete-kept}
+use Rattle.store_layout.proofs.KeptLaws.{delete-kept}
 use Rattle.store_write.specs.ChangeLaws.{kept}
-use Rattle.fields_encoding.specs.BasicLaws.{never}
+use Rattle.fields_encoding.proofs.BasicLaws.{never}
 use Rattle.protocol.specs.StatusCode.{SUCCESS, NOT_FOUND, VERSION_MISMATCH}
 use Rattle.protocol.specs.State.{State}
 use Rattle.protocol.specs.Command.{KeyValue}

@@ -7,7 +7,7 @@ use Rattle.store_layout.specs.declared.PutAnswer.{PutAnswer}
 use Rattle.store_layout.specs.declared.PutAnswer.TheVariants.{Stored, Full, Unfit}
 use Rattle.store_layout.specs.Store.{Good}
 use Rattle.store_layout.specs.Entries.{put_answer, put_store}
-use Rattle.store_layout.specs.KeptLaws.{put-kept, put_same}
+use Rattle.store_layout.proofs.KeptLaws.{put-kept, put_same}
 use Rattle.protocol.specs.StatusCode.{SUCCESS, VERSION_MISMATCH}
 use Rattle.protocol.specs.State.{State}
 use Rattle.protocol.specs.Command.{KeyValue}

@@ -9,12 +9,12 @@ use Rattle.std.proofs.Math.Decide.{dec_le}
 use Rattle.std.proofs.Math.ListN.{take}
 use Rattle.std.proofs.Math.Seq.{take-nil}
 use Rattle.base_definitions.specs.Lists.{map_l, only}
-use Rattle.base_definitions.specs.OnlyLaws.{only-only, only-reverse, map-reverse, map-append}
+use Rattle.base_definitions.proofs.OnlyLaws.{only-only, only-reverse, map-reverse, map-append}
 use Rattle.base_definitions.specs.Options.{or_else}
 use Rattle.store_block.specs.Entry.{Entry, no_entry}
 use Rattle.store_layout.specs.Store.{Sorted}
 use Rattle.store_layout.specs.Entries.{below, up_to}
-use Rattle.store_layout.specs.EntriesLaws.{below-most, up_to-most}
+use Rattle.store_layout.proofs.EntriesLaws.{below-most, up_to-most}
 use Rattle.protocol.specs.Command.{Range}
 use Rattle.protocol.specs.Judge.{in_range, keys_in, keys_of}
 use Rattle.operation_visible.specs.Runs.{onward, entries_from, skipped_from}

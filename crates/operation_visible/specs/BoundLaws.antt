@@ -4,7 +4,7 @@ use Rattle.std.proofs.Common.{sym, ap, ap₂, ◌∙◌, arith}
 use mathlib.Core.List.{List, [], ◌∷◌, ◌++◌, reverse, reverse-cons}
 use Rattle.std.proofs.Math.Option.{Option}
 use Rattle.base_definitions.specs.Lists.{only, first}
-use Rattle.base_definitions.specs.OnlyLaws.{only-only, only-alike, only-reverse}
+use Rattle.base_definitions.proofs.OnlyLaws.{only-only, only-alike, only-reverse}
 use Rattle.store_block.specs.declared.Order.{Order}
 use Rattle.store_block.specs.declared.Order.TheVariants.{Less, Equal, Greater}
 use Rattle.store_block.specs.Order.{cmp}
@@ -14,7 +14,7 @@ use Rattle.store_block.specs.Entry.{Entry, no_entry}
 use Rattle.store_block.specs.Block.{is_less, is_equal}
 use Rattle.store_layout.specs.Store.{Above, Sorted}
 use Rattle.store_layout.specs.Entries.{by_order, below, up_to, next_of, previous_of}
-use Rattle.store_layout.specs.EntriesLaws.{none_below, none-up_to, above-next}
+use Rattle.store_layout.proofs.EntriesLaws.{none_below, none-up_to, above-next}
 use Rattle.operation_visible.specs.Runs.{entries_from}
 
 -- ---- runs

@@ -8,7 +8,7 @@ use Prim.Native.Nat.{ℕ, zero, suc, ◌+◌, ◌-◌, ◌≤◌, ◌<◌}
 use native.Mathlib.Omega.{arith}
 use Rattle.std.proofs.Math.ListN.{get_or}
 use Rattle.base_definitions.specs.Lists.{only}
-use Rattle.base_definitions.specs.OnlyLaws.{only_yes, only_no}
+use Rattle.base_definitions.proofs.OnlyLaws.{only_yes, only_no}
 use Rattle.store_block.specs.Entry.{Entry, no_entry}
 use Rattle.operation_visible.specs.declared.Run.{Run}
 use Rattle.operation_visible.specs.Runs.{onward, entries_from, run, skipped_from}

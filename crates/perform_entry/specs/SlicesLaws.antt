@@ -11,7 +11,7 @@ use Rattle.base_definitions.specs.Options.{or_else}
 use Rattle.fields_lookup.specs.Views.{Lies, part_view}
 use Rattle.protocol.specs.State.{State}
 use Rattle.protocol.specs.Judge.{key_value, shown, succeeds}
-use Rattle.fields_lookup.specs.SliceLaws.{slice_at}
+use Rattle.fields_lookup.proofs.SliceLaws.{slice_at}
 use Rattle.perform_entry.specs.Slices.{cut, cut_at}
 
 pub cut_short : (l : List ℕ) (a n m : ℕ) → n ≤ m → length (cut l a n) ≤ m

@@ -11,7 +11,7 @@ use Rattle.base_definitions.specs.Options.{or_else}
 use Rattle.protocol.specs.Command.{flag}
 use Rattle.protocol.specs.Judge.{key_value_good, new_entry}
 use Rattle.operation_put.specs.PutCode.{Puts}
-use Rattle.protocol.specs.PutLaws.{put-fits}
+use Rattle.protocol.proofs.PutLaws.{put-fits}
 use Rattle.operation_put.specs.DeleteCode.{Deletes}
 use Rattle.request_parts.specs.declared.KeyValue.{KeyValue}
 use Rattle.request_parts.specs.Views.{KeyValueLies, key_value_view}

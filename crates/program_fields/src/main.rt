@@ -7,62 +7,63 @@ use fields_rule::{Judged, judge};
 use fields_schema::Kind;
 use fields_value::Taken;
 use fields_wire_reader::{next_of, read_field};
-use libc::{STDIN_FILENO, STDOUT_FILENO};
-use program_words::{part, place_of, unhex, write, write_hex};
+use program_words::{part, place_of, read_full, unhex, write, write_hex};
+use std::io;
 
-fn show_number(v: u64) {
+fn show_number(rt: &impl Print, v: u64) -> io::Result<()> {
     if signed(v) < 0 {
-        write(b"-");
+        write(rt, b"-")?;
         let below = 18446744073709551615 - v;
         if below < 18446744073709551615 {
-            io::print_decimal(STDOUT_FILENO, below + 1);
+            let size = below + 1;
+            print!(rt; "{size}")?;
         }
-        return;
+        return Ok(());
     }
-    io::print_decimal(STDOUT_FILENO, v);
+    print!(rt; "{v}")
 }
 
 // A field that is no message, or where one begins.
-fn show_plain(s: &[u8], number: usize, what: Taken) {
-    io::print_decimal(STDOUT_FILENO, number as u64);
+fn show_plain(rt: &impl Print, s: &[u8], number: usize, what: Taken) -> io::Result<()> {
+    print!(rt; "{number}")?;
     match what {
         Taken::Number(v) => {
-            write(b"=");
-            show_number(v);
-            write(b";");
+            write(rt, b"=")?;
+            show_number(rt, v)?;
+            write(rt, b";")
         }
         Taken::Slice { start, len } => {
-            write(b":");
-            write_hex(part(s, start, len));
-            write(b";");
+            write(rt, b":")?;
+            write_hex(rt, part(s, start, len))?;
+            write(rt, b";")
         }
         Taken::Fixed { start } => {
-            write(b"#");
-            write_hex(part(s, start, 4));
-            write(b";");
+            write(rt, b"#")?;
+            write_hex(rt, part(s, start, 4))?;
+            write(rt, b";")
         }
         Taken::Inside {
             kind: _,
             start: _,
             len: _,
-        } => write(b"{"),
-        Taken::Wrong => write(b"?"),
+        } => write(rt, b"{"),
+        Taken::Wrong => write(rt, b"?"),
     }
 }
 
 // The listed fields of a message that decodes, `depth` messages deep at most.
 #[cycle(show_show_field)]
-fn show(s: &[u8], kind: Kind, depth: usize) {
+fn show(rt: &impl Print, s: &[u8], kind: Kind, depth: usize) -> io::Result<()> {
     let mut at = 0;
     while at < s.len() {
         let f = read_field(s, at);
         let next = next_of(f);
         if next <= at {
-            return;
+            return Ok(());
         }
         match judge(kind, 0, f) {
             Judged::Refuse => {
-                return;
+                return Ok(());
             }
             Judged::Skip => {}
             Judged::Take {
@@ -70,31 +71,39 @@ fn show(s: &[u8], kind: Kind, depth: usize) {
                 seen: _,
                 what,
             } => {
-                show_field(s, number, what, depth);
+                show_field(rt, s, number, what, depth)?;
             }
         }
         at = next;
     }
+    Ok(())
 }
 
 #[cycle(show_show_field)]
-fn show_field(s: &[u8], number: usize, what: Taken, depth: usize) {
-    show_plain(s, number, what);
+fn show_field(
+    rt: &impl Print,
+    s: &[u8],
+    number: usize,
+    what: Taken,
+    depth: usize,
+) -> io::Result<()> {
+    show_plain(rt, s, number, what)?;
     if let Taken::Inside { kind, start, len } = what {
         if 0 < depth {
-            show(part(s, start, len), kind, depth - 1);
+            show(rt, part(s, start, len), kind, depth - 1)?;
         }
-        write(b"}");
+        write(rt, b"}")?;
     }
+    Ok(())
 }
 
-fn message(s: &[u8], kind: Kind) {
+fn message(rt: &impl Print, s: &[u8], kind: Kind) -> io::Result<()> {
     if reads(s, kind) {
-        show(s, kind, 5);
+        show(rt, s, kind, 5)?;
     } else {
-        write(b"refused");
+        write(rt, b"refused")?;
     }
-    write(b"\n");
+    write(rt, b"\n")
 }
 
 fn kind_of(b: u8) -> Kind {
@@ -117,26 +126,28 @@ fn kind_of(b: u8) -> Kind {
     }
 }
 
-fn case(line: &[u8]) {
+fn case(rt: &impl Print, line: &[u8]) -> io::Result<()> {
     let mut bytes = [0u8; 1024];
     let n = unhex(line, &mut bytes);
     if 0 < n {
         let kind = kind_of(bytes[0]);
-        message(part(&bytes, 1, n - 1), kind);
+        message(rt, part(&bytes, 1, n - 1), kind)?;
     }
+    Ok(())
 }
 
-fn lines(s: &[u8]) {
+fn lines(rt: &impl Print, s: &[u8]) -> io::Result<()> {
     let mut at = 0;
     while at < s.len() {
         let end = place_of(s, b'\n', at);
-        case(&s[at..end]);
+        case(rt, &s[at..end])?;
         at = end + 1;
     }
+    Ok(())
 }
 
-fn main() {
-    let mut input = io::large_buffer();
-    let n = io::read_full(STDIN_FILENO, &mut input);
-    lines(&input[..n]);
+fn main(rt: HostRuntime) -> io::Result<()> {
+    let mut input = [0u8; 65536];
+    let n = read_full(&mut rt.reader(), &mut input)?;
+    lines(&rt, &input[..n])
 }

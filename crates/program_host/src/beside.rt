@@ -5,19 +5,20 @@ use program_reply::columns::newline;
 use program_reply::text::sha1;
 use program_reply::title;
 use program_words::{first, number, part, rest, unhex, word, write};
+use std::io;
 
-fn room(said: &[u8], host: Host) -> Host {
-    let next = done(rest(said), host);
-    Host {
+fn room(rt: &impl Print, said: &[u8], host: Host) -> io::Result<Host> {
+    let next = done(rt, rest(said), host)?;
+    Ok(Host {
         store: next.store,
         room: number(said) as usize,
         row: next.row,
-    }
+    })
 }
 
-fn measured(said: &[u8], readings: &mut Readings, host: Host) -> Host {
+fn measured(rt: &impl Print, said: &[u8], readings: &mut Readings, host: Host) -> io::Result<Host> {
     unhex(word(said), readings);
-    done(rest(said), host)
+    done(rt, rest(said), host)
 }
 
 fn overwrite_at(lent: &mut [u8], place: usize, b: u8) {
@@ -26,42 +27,43 @@ fn overwrite_at(lent: &mut [u8], place: usize, b: u8) {
     }
 }
 
-fn overwrite(said: &[u8], lent: &mut [u8], host: Host) -> Host {
+fn overwrite(rt: &impl Print, said: &[u8], lent: &mut [u8], host: Host) -> io::Result<Host> {
     let after = rest(said);
     let place = number(said) as usize;
     overwrite_at(lent, place, (number(after) % 256) as u8);
-    done(rest(after), host)
+    done(rt, rest(after), host)
 }
 
-fn end(store: &[u8], device: &Record, host: Host) {
-    write(b"\nSHA-1 of the store          ");
-    sha1(part(store, 0, host.store));
-    write(b"\nSHA-1 of the device record  ");
-    sha1(device);
-    newline();
+fn end(rt: &impl Print, store: &[u8], device: &Record, host: Host) -> io::Result<()> {
+    write(rt, b"\nSHA-1 of the store          ")?;
+    sha1(rt, part(store, 0, host.store))?;
+    write(rt, b"\nSHA-1 of the device record  ")?;
+    sha1(rt, device)?;
+    newline(rt)
 }
 
 pub fn beside(
+    rt: &impl Print,
     line: &[u8],
     store: &mut Store,
     device: &mut Record,
     readings: &mut Readings,
     host: Host,
-) -> Host {
+) -> io::Result<Host> {
     let said = rest(line);
     match first(line) {
-        b'o' => room(said, host),
-        b'm' => measured(said, readings, host),
-        b'b' => overwrite(said, store, host),
-        b'd' => overwrite(said, device, host),
+        b'o' => room(rt, said, host),
+        b'm' => measured(rt, said, readings, host),
+        b'b' => overwrite(rt, said, store, host),
+        b'd' => overwrite(rt, said, device, host),
         b'#' => {
-            title(said);
-            host
+            title(rt, said)?;
+            Ok(host)
         }
         b'e' => {
-            end(store, device, host);
-            host
+            end(rt, store, device, host)?;
+            Ok(host)
         }
-        _ => host,
+        _ => Ok(host),
     }
 }

@@ -6,64 +6,79 @@ use base_integers::signed;
 use device_format::Formatted;
 use program_reply::text::under;
 use program_words::{number, part, rest, unhex, word, write};
+use std::io;
 use store_local_read::Local;
 
-fn made(r: Formatted) {
+fn made(rt: &impl Print, r: Formatted) -> io::Result<()> {
     match r {
-        Formatted::Made => write(b"made\n"),
-        Formatted::StoreBad => write(b"refusal 2 STORE_BAD\n"),
-        Formatted::KeyBad => write(b"refusal 6 KEY_BAD\n"),
+        Formatted::Made => write(rt, b"made\n"),
+        Formatted::StoreBad => write(rt, b"refusal 2 STORE_BAD\n"),
+        Formatted::KeyBad => write(rt, b"refusal 6 KEY_BAD\n"),
     }
 }
 
-fn make(store: &mut [u8], n: usize, device: &mut Record, key: &[u8]) {
+fn make(
+    rt: &impl Print,
+    store: &mut [u8],
+    n: usize,
+    device: &mut Record,
+    key: &[u8],
+) -> io::Result<()> {
     let mut bytes = [0u8; 4096];
     let k = unhex(key, &mut bytes);
     if n <= store.len() {
-        made(device_format::format(&mut store[0..n], device, part(&bytes, 0, k)));
+        let r = device_format::format(&mut store[0..n], device, part(&bytes, 0, k));
+        made(rt, r)?;
     }
+    Ok(())
 }
 
-pub fn format(said: &[u8], store: &mut Store, device: &mut Record, host: Host) -> Host {
+pub fn format(
+    rt: &impl Print,
+    said: &[u8],
+    store: &mut Store,
+    device: &mut Record,
+    host: Host,
+) -> io::Result<Host> {
     let after = rest(said);
     let n = number(said) as usize;
-    let next = row(rest(after), host);
-    make(store, n, device, word(after));
-    Host {
+    let next = row(rt, rest(after), host)?;
+    make(rt, store, n, device, word(after))?;
+    Ok(Host {
         store: n,
         room: next.room,
         row: next.row,
-    }
+    })
 }
 
-pub fn connect(said: &[u8], slots: &mut Slots, host: Host) -> Host {
+pub fn connect(rt: &impl Print, said: &[u8], slots: &mut Slots, host: Host) -> io::Result<Host> {
     let after = rest(said);
     let last = rest(after);
     let slot = number(said);
     let c = protocol_connection::connect(signed(number(after)), number(last) == 1);
     keep(slots, slot, c);
-    let next = row(rest(last), host);
-    write(b"connected\n");
-    next
+    let next = row(rt, rest(last), host)?;
+    write(rt, b"connected\n")?;
+    Ok(next)
 }
 
-fn shown_as(r: Local) {
+fn shown_as(rt: &impl Print, r: Local) -> io::Result<()> {
     match r {
-        Local::Value { start: _, len: _ } => write(b"found\n"),
-        Local::NotFound => write(b"not found\n"),
-        Local::StoreBad => write(b"refusal 2 STORE_BAD\n"),
+        Local::Value { start: _, len: _ } => write(rt, b"found\n"),
+        Local::NotFound => write(rt, b"not found\n"),
+        Local::StoreBad => write(rt, b"refusal 2 STORE_BAD\n"),
     }
 }
 
-fn show_local(store: &[u8], key: &[u8]) {
-    shown_as(store_local_read::local_find(store, key));
-    under(b"value", store_local_read::local_read(store, key));
+fn show_local(rt: &impl Print, store: &[u8], key: &[u8]) -> io::Result<()> {
+    shown_as(rt, store_local_read::local_find(store, key))?;
+    under(rt, b"value", store_local_read::local_read(store, key))
 }
 
-pub fn local_read(said: &[u8], store: &[u8], host: Host) -> Host {
+pub fn local_read(rt: &impl Print, said: &[u8], store: &[u8], host: Host) -> io::Result<Host> {
     let mut key = [0u8; 4096];
     let n = unhex(word(said), &mut key);
-    let next = row(rest(said), host);
-    show_local(part(store, 0, host.store), part(&key, 0, n));
-    next
+    let next = row(rt, rest(said), host)?;
+    show_local(rt, part(store, 0, host.store), part(&key, 0, n))?;
+    Ok(next)
 }

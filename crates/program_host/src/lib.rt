@@ -14,9 +14,10 @@ use crate::rescue::rescue;
 use crate::slots::Slots;
 use access_record::Record;
 use program_words::{first, rest, write};
+use std::io;
 
 // How much is lent of the store and of the reply buffer, and the number of the last row.
-#[derive(Drop)]
+#[derive(Clone, Copy)]
 pub struct Host {
     pub store: usize,
     pub room: usize,
@@ -44,38 +45,39 @@ fn number_after(row: u64) -> u64 {
 }
 
 // Begins the next row.
-pub fn row(asked: &[u8], host: Host) -> Host {
+pub fn row(rt: &impl Print, asked: &[u8], host: Host) -> io::Result<Host> {
     let next = number_after(host.row);
-    program_reply::row(next, asked);
-    Host {
+    program_reply::row(rt, next, asked)?;
+    Ok(Host {
         store: host.store,
         room: host.room,
         row: next,
-    }
+    })
 }
 
 // A row of what the host does beside the calls.
-fn done(asked: &[u8], host: Host) -> Host {
-    let next = row(asked, host);
-    write(b"done\n");
-    next
+fn done(rt: &impl Print, asked: &[u8], host: Host) -> io::Result<Host> {
+    let next = row(rt, asked, host)?;
+    write(rt, b"done\n")?;
+    Ok(next)
 }
 
 // An event in which no message is sent.
 pub fn event(
+    rt: &impl Print,
     line: &[u8],
     store: &mut Store,
     device: &mut Record,
     readings: &mut Readings,
     slots: &mut Slots,
     host: Host,
-) -> Host {
+) -> io::Result<Host> {
     let said = rest(line);
     match first(line) {
-        b'f' => format(said, store, device, host),
-        b'c' => connect(said, slots, host),
-        b'l' => local_read(said, store, host),
-        b'r' => rescue(said, store, host),
-        _ => beside(line, store, device, readings, host),
+        b'f' => format(rt, said, store, device, host),
+        b'c' => connect(rt, said, slots, host),
+        b'l' => local_read(rt, said, store, host),
+        b'r' => rescue(rt, said, store, host),
+        _ => beside(rt, line, store, device, readings, host),
     }
 }

@@ -8,7 +8,7 @@ use access_permission::{DELETE, RANGE, READ, SECURITY, SETUP, WRITE};
 use access_record::offsets::RECORD_BYTES;
 use access_record::{IdentityPlace, Record};
 use base_integers::word;
-use libc::STDOUT_FILENO;
+use std::io;
 
 const MINUS_ONE: i64 = -1;
 
@@ -100,159 +100,180 @@ fn judge_any(device: &Record, identity: i64, protected: bool, permission: u8) ->
 
 // ---- a line for each cell
 
-fn write(text: &[u8]) {
-    io::write_all(STDOUT_FILENO, text);
+fn write(rt: &impl Print, text: &[u8]) -> io::Result<()> {
+    rt.write_all(text)
 }
 
-fn write_identity(identity: i64) {
+fn write_identity(rt: &impl Print, identity: i64) -> io::Result<()> {
     if identity == MINUS_ONE {
-        write(b"-1");
-        return;
+        return write(rt, b"-1");
     }
-    io::print_decimal(STDOUT_FILENO, word(identity));
+    let number = word(identity);
+    print!(rt; "{number}")
 }
 
-fn write_permission(permission: u8) {
+fn write_permission(rt: &impl Print, permission: u8) -> io::Result<()> {
     match permission {
-        0 => write(b" READ"),
-        1 => write(b" WRITE"),
-        2 => write(b" DELETE"),
-        3 => write(b" RANGE"),
-        4 => write(b" SETUP"),
-        8 => write(b" SECURITY"),
-        _ => write(b" ?"),
+        0 => write(rt, b" READ"),
+        1 => write(rt, b" WRITE"),
+        2 => write(rt, b" DELETE"),
+        3 => write(rt, b" RANGE"),
+        4 => write(rt, b" SETUP"),
+        8 => write(rt, b" SECURITY"),
+        _ => write(rt, b" ?"),
     }
 }
 
-fn write_key(key: &[u8]) {
-    write(b" \"");
-    write(key);
-    write(b"\"");
+fn write_key(rt: &impl Print, key: &[u8]) -> io::Result<()> {
+    write(rt, b" \"")?;
+    write(rt, key)?;
+    write(rt, b"\"")
 }
 
-fn write_cell(protected: bool, verdict: Verdict) {
+fn write_cell(rt: &impl Print, protected: bool, verdict: Verdict) -> io::Result<()> {
     if protected {
-        write(b" protected");
+        write(rt, b" protected")?;
     } else {
-        write(b" plain");
+        write(rt, b" plain")?;
     }
     match verdict {
-        Verdict::Bad => write(b" bad\n"),
-        Verdict::Nobody => write(b" nobody\n"),
-        Verdict::No => write(b" no\n"),
-        Verdict::Yes => write(b" yes\n"),
+        Verdict::Bad => write(rt, b" bad\n"),
+        Verdict::Nobody => write(rt, b" nobody\n"),
+        Verdict::No => write(rt, b" no\n"),
+        Verdict::Yes => write(rt, b" yes\n"),
     }
 }
 
-fn cell(device: &Record, identity: i64, protected: bool, permission: u8, key: &[u8])
+fn cell(
+    rt: &impl Print,
+    device: &Record,
+    identity: i64,
+    protected: bool,
+    permission: u8,
+    key: &[u8],
+) -> io::Result<()>
     requires { permission < 16 }
 {
-    write_identity(identity);
-    write_permission(permission);
-    write_key(key);
+    write_identity(rt, identity)?;
+    write_permission(rt, permission)?;
+    write_key(rt, key)?;
     write_cell(
+        rt,
         protected,
         judge(device, identity, protected, permission, key),
-    );
+    )
 }
 
-fn row(device: &Record, identity: i64, permission: u8, key: &[u8])
+fn row(
+    rt: &impl Print,
+    device: &Record,
+    identity: i64,
+    permission: u8,
+    key: &[u8],
+) -> io::Result<()>
     requires { permission < 16 }
 {
-    cell(device, identity, false, permission, key);
-    cell(device, identity, true, permission, key);
+    cell(rt, device, identity, false, permission, key)?;
+    cell(rt, device, identity, true, permission, key)
 }
 
-fn cell_any(device: &Record, identity: i64, protected: bool, permission: u8)
+fn cell_any(
+    rt: &impl Print,
+    device: &Record,
+    identity: i64,
+    protected: bool,
+    permission: u8,
+) -> io::Result<()>
     requires { permission < 16 }
 {
-    write_identity(identity);
-    write_permission(permission);
+    write_identity(rt, identity)?;
+    write_permission(rt, permission)?;
     write_cell(
+        rt,
         protected,
         judge_any(device, identity, protected, permission),
-    );
+    )
 }
 
-fn row_any(device: &Record, identity: i64, permission: u8)
+fn row_any(rt: &impl Print, device: &Record, identity: i64, permission: u8) -> io::Result<()>
     requires { permission < 16 }
 {
-    cell_any(device, identity, false, permission);
-    cell_any(device, identity, true, permission);
+    cell_any(rt, device, identity, false, permission)?;
+    cell_any(rt, device, identity, true, permission)
 }
 
 // ---- the rows
 
-fn client_rows(device: &Record) {
-    row(device, 1, READ, b"foo1");
-    row(device, 1, READ, b"bar");
-    row(device, 1, WRITE, b"foo");
-    row(device, 1, WRITE, b"foo/1");
-    row(device, 1, WRITE, b"fo");
-    row(device, 1, WRITE, b"xfoo");
-    row(device, 1, WRITE, b"bar");
-    row(device, 1, DELETE, b"foo1");
-    row_any(device, 1, READ);
-    row_any(device, 1, RANGE);
-    row_any(device, 1, SECURITY);
-    row_any(device, 2, SECURITY);
-    row_any(device, 2, SETUP);
-    row_any(device, 2, READ);
-    row(device, 2, READ, b"foo1");
-    row(device, 2, WRITE, b"foo1");
+fn client_rows(rt: &impl Print, device: &Record) -> io::Result<()> {
+    row(rt, device, 1, READ, b"foo1")?;
+    row(rt, device, 1, READ, b"bar")?;
+    row(rt, device, 1, WRITE, b"foo")?;
+    row(rt, device, 1, WRITE, b"foo/1")?;
+    row(rt, device, 1, WRITE, b"fo")?;
+    row(rt, device, 1, WRITE, b"xfoo")?;
+    row(rt, device, 1, WRITE, b"bar")?;
+    row(rt, device, 1, DELETE, b"foo1")?;
+    row_any(rt, device, 1, READ)?;
+    row_any(rt, device, 1, RANGE)?;
+    row_any(rt, device, 1, SECURITY)?;
+    row_any(rt, device, 2, SECURITY)?;
+    row_any(rt, device, 2, SETUP)?;
+    row_any(rt, device, 2, READ)?;
+    row(rt, device, 2, READ, b"foo1")?;
+    row(rt, device, 2, WRITE, b"foo1")
 }
 
-fn reader_rows(device: &Record) {
-    row(device, 3, READ, b"xyztest1");
-    row(device, 3, READ, b"001test2");
-    row(device, 3, READ, b"somethingElse");
-    row(device, 3, READ, b"test123");
-    row(device, 3, READ, b"1234test");
-    row(device, 3, READ, b"xyztes");
-    row(device, 3, READ, b"");
-    row(device, 4, WRITE, b"a1");
-    row(device, 4, WRITE, b"b1");
-    row(device, 4, READ, b"a1");
-    row(device, 4, READ, b"b1");
-    row(device, 4, DELETE, b"a1");
-    row_any(device, 4, READ);
+fn reader_rows(rt: &impl Print, device: &Record) -> io::Result<()> {
+    row(rt, device, 3, READ, b"xyztest1")?;
+    row(rt, device, 3, READ, b"001test2")?;
+    row(rt, device, 3, READ, b"somethingElse")?;
+    row(rt, device, 3, READ, b"test123")?;
+    row(rt, device, 3, READ, b"1234test")?;
+    row(rt, device, 3, READ, b"xyztes")?;
+    row(rt, device, 3, READ, b"")?;
+    row(rt, device, 4, WRITE, b"a1")?;
+    row(rt, device, 4, WRITE, b"b1")?;
+    row(rt, device, 4, READ, b"a1")?;
+    row(rt, device, 4, READ, b"b1")?;
+    row(rt, device, 4, DELETE, b"a1")?;
+    row_any(rt, device, 4, READ)
 }
 
-fn range_rows(device: &Record) {
-    row_any(device, 5, RANGE);
-    row(device, 5, RANGE, b"a1");
-    row(device, 5, RANGE, b"m1");
-    row(device, 5, RANGE, b"z1");
-    row(device, 5, RANGE, b"");
-    row_any(device, 5, READ);
-    row_any(device, 7, READ);
-    row_any(device, 7, RANGE);
-    row(device, 7, READ, b"z1");
-    row(device, 7, RANGE, b"a1");
+fn range_rows(rt: &impl Print, device: &Record) -> io::Result<()> {
+    row_any(rt, device, 5, RANGE)?;
+    row(rt, device, 5, RANGE, b"a1")?;
+    row(rt, device, 5, RANGE, b"m1")?;
+    row(rt, device, 5, RANGE, b"z1")?;
+    row(rt, device, 5, RANGE, b"")?;
+    row_any(rt, device, 5, READ)?;
+    row_any(rt, device, 7, READ)?;
+    row_any(rt, device, 7, RANGE)?;
+    row(rt, device, 7, READ, b"z1")?;
+    row(rt, device, 7, RANGE, b"a1")
 }
 
-fn other_rows(device: &Record) {
-    row(device, 6, READ, b"open");
-    row(device, 6, READ, b"shut");
-    row(device, 6, READ, b"pen");
-    row_any(device, 6, READ);
-    row_any(device, MINUS_ONE, SETUP);
-    row_any(device, MINUS_ONE, SECURITY);
-    row_any(device, MINUS_ONE, RANGE);
-    row(device, MINUS_ONE, RANGE, b"zzzz");
-    row(device, MINUS_ONE, READ, b"zzzz");
-    row(device, 9, READ, b"foo1");
-    row_any(device, 9, RANGE);
+fn other_rows(rt: &impl Print, device: &Record) -> io::Result<()> {
+    row(rt, device, 6, READ, b"open")?;
+    row(rt, device, 6, READ, b"shut")?;
+    row(rt, device, 6, READ, b"pen")?;
+    row_any(rt, device, 6, READ)?;
+    row_any(rt, device, MINUS_ONE, SETUP)?;
+    row_any(rt, device, MINUS_ONE, SECURITY)?;
+    row_any(rt, device, MINUS_ONE, RANGE)?;
+    row(rt, device, MINUS_ONE, RANGE, b"zzzz")?;
+    row(rt, device, MINUS_ONE, READ, b"zzzz")?;
+    row(rt, device, 9, READ, b"foo1")?;
+    row_any(rt, device, 9, RANGE)
 }
 
-fn main() {
+fn main(rt: HostRuntime) -> io::Result<()> {
     let mut device = [0u8; RECORD_BYTES];
     access_table_write::clear_table(&mut device, 0);
     clients(&mut device);
     readers(&mut device);
     others(&mut device);
-    client_rows(&device);
-    reader_rows(&device);
-    range_rows(&device);
-    other_rows(&device);
+    client_rows(&rt, &device)?;
+    reader_rows(&rt, &device)?;
+    range_rows(&rt, &device)?;
+    other_rows(&rt, &device)
 }

@@ -5,114 +5,101 @@
 ghost use Rattle.std.specs.Prelude.{◌<◌, ◌≤◌};
 ghost use Rattle.log_readings.specs.Places.{Placed, Places};
 
-use libc::{STDIN_FILENO, STDOUT_FILENO};
 use log_binary32::{Sent, Temperature};
+use std::io;
 
-fn write(b: &[u8]) {
-    io::write_all(STDOUT_FILENO, b);
+fn write(rt: &impl Print, b: &[u8]) -> io::Result<()> {
+    rt.write_all(b)
 }
 
-fn show(s: Sent) {
+fn show(rt: &impl Print, s: Sent) -> io::Result<()> {
     match s {
-        Sent::Bits(b) => {
-            io::print_hex(STDOUT_FILENO, b as u64, 8);
-        }
-        Sent::Omitted => {
-            write(b"omitted");
-        }
+        Sent::Bits(b) => print!(rt; "{b:08x}"),
+        Sent::Omitted => write(rt, b"omitted"),
     }
 }
 
-fn pattern(bits: u32) {
-    io::print_hex(STDOUT_FILENO, bits as u64, 8);
-    write(b" ");
-    show(log_binary32::lent_celsius(false, bits));
-    write(b" ");
-    show(log_binary32::lent_celsius(true, bits));
-    write(b" ");
-    show(log_binary32::finite_lent(bits));
-    write(b"\n");
+fn pattern(rt: &impl Print, bits: u32) -> io::Result<()> {
+    print!(rt; "{bits:08x} ")?;
+    show(rt, log_binary32::lent_celsius(false, bits))?;
+    write(rt, b" ")?;
+    show(rt, log_binary32::lent_celsius(true, bits))?;
+    write(rt, b" ")?;
+    show(rt, log_binary32::finite_lent(bits))?;
+    write(rt, b"\n")
 }
 
 // 0, -0.0, 32, 212, 98.6, -459.67, the largest and its negative; then subnormals and the least normal.
-fn patterns() {
-    pattern(0x00000000);
-    pattern(0x80000000);
-    pattern(0x42000000);
-    pattern(0x43540000);
-    pattern(0x42c53333);
-    pattern(0xc3e5d5c3);
-    pattern(0x7f7fffff);
-    pattern(0xff7fffff);
-    pattern(0x00000001);
-    pattern(0x80000001);
-    pattern(0x007fffff);
-    pattern(0x00800000);
+fn patterns(rt: &impl Print) -> io::Result<()> {
+    pattern(rt, 0x00000000)?;
+    pattern(rt, 0x80000000)?;
+    pattern(rt, 0x42000000)?;
+    pattern(rt, 0x43540000)?;
+    pattern(rt, 0x42c53333)?;
+    pattern(rt, 0xc3e5d5c3)?;
+    pattern(rt, 0x7f7fffff)?;
+    pattern(rt, 0xff7fffff)?;
+    pattern(rt, 0x00000001)?;
+    pattern(rt, 0x80000001)?;
+    pattern(rt, 0x007fffff)?;
+    pattern(rt, 0x00800000)
 }
 
 // NaNs, the infinities, the neighbours of 32, those where five times overflows, -40 and 0.1.
-fn more_patterns() {
-    pattern(0x7fc00000);
-    pattern(0xff800001);
-    pattern(0x7f800000);
-    pattern(0xff800000);
-    pattern(0x41ffffff);
-    pattern(0x42000001);
-    pattern(0x7e4ccccc);
-    pattern(0x7e4ccccd);
-    pattern(0xfe4ccccd);
-    pattern(0xc2200000);
-    pattern(0x3dcccccd);
+fn more_patterns(rt: &impl Print) -> io::Result<()> {
+    pattern(rt, 0x7fc00000)?;
+    pattern(rt, 0xff800001)?;
+    pattern(rt, 0x7f800000)?;
+    pattern(rt, 0xff800000)?;
+    pattern(rt, 0x41ffffff)?;
+    pattern(rt, 0x42000001)?;
+    pattern(rt, 0x7e4ccccc)?;
+    pattern(rt, 0x7e4ccccd)?;
+    pattern(rt, 0xfe4ccccd)?;
+    pattern(rt, 0xc2200000)?;
+    pattern(rt, 0x3dcccccd)
 }
 
-fn degrees(t: Temperature) {
-    show(log_binary32::celsius(t));
-    write(b"\n");
+fn degrees(rt: &impl Print, t: Temperature) -> io::Result<()> {
+    show(rt, log_binary32::celsius(t))?;
+    write(rt, b"\n")
 }
 
-fn decimal() {
-    degrees(Temperature::Fahrenheit(98.6));
-    degrees(Temperature::Fahrenheit(-459.67));
-    degrees(Temperature::Fahrenheit(-0.0));
-    degrees(Temperature::Celsius(-0.0));
-    degrees(Temperature::Celsius(37.0));
+fn decimal(rt: &impl Print) -> io::Result<()> {
+    degrees(rt, Temperature::Fahrenheit(98.6))?;
+    degrees(rt, Temperature::Fahrenheit(-459.67))?;
+    degrees(rt, Temperature::Fahrenheit(-0.0))?;
+    degrees(rt, Temperature::Celsius(-0.0))?;
+    degrees(rt, Temperature::Celsius(37.0))?;
     let zero: f32 = 0.0;
-    degrees(Temperature::Celsius(zero / zero));
-    degrees(Temperature::Fahrenheit(1.0 / zero));
+    degrees(rt, Temperature::Celsius(zero / zero))?;
+    degrees(rt, Temperature::Fahrenheit(1.0 / zero))
 }
 
-fn portion(used: usize, all: usize)
+fn portion(rt: &impl Print, used: usize, all: usize) -> io::Result<()>
     requires { (used ≤ all) × ((0 < all) × (all ≤ 128)) }
 {
-    io::print_decimal(STDOUT_FILENO, used as u64);
-    write(b"/");
-    io::print_decimal(STDOUT_FILENO, all as u64);
-    write(b" ");
-    io::print_hex(
-        STDOUT_FILENO,
-        log_binary32::portion_full(used, all) as u64,
-        8,
-    );
-    write(b"\n");
+    let full = log_binary32::portion_full(used, all);
+    println!(rt; "{used}/{all} {full:08x}")
 }
 
-fn portions() {
-    portion(0, 1);
-    portion(1, 3);
-    portion(2, 3);
-    portion(127, 128);
-    portion(128, 128);
-    portion(1, 128);
-    portion(0, 128);
-    portion(1, 7);
-    portion(5, 100);
-    portion(99, 127);
+fn portions(rt: &impl Print) -> io::Result<()> {
+    portion(rt, 0, 1)?;
+    portion(rt, 1, 3)?;
+    portion(rt, 2, 3)?;
+    portion(rt, 127, 128)?;
+    portion(rt, 128, 128)?;
+    portion(rt, 1, 128)?;
+    portion(rt, 0, 128)?;
+    portion(rt, 1, 7)?;
+    portion(rt, 5, 100)?;
+    portion(rt, 99, 127)
 }
 
 fn added(sum: u32, s: Sent) -> u32 {
     match s {
-        Sent::Bits(b) => std::num::wrapping_add_u32(sum, b),
-        Sent::Omitted => std::num::wrapping_add_u32(sum, 1),
+        Sent::Bits(b) => sum.wrapping_add(b),
+        Sent::Omitted => sum.wrapping_add(1),
     }
 }
 
@@ -123,39 +110,45 @@ fn sweep(step: u32, count: u32) -> u32 {
     let mut i: u32 = 0;
     while i < count {
         sum = added(sum, log_binary32::lent_celsius(true, bits));
-        bits = std::num::wrapping_add_u32(bits, step);
+        bits = bits.wrapping_add(step);
         i += 1;
     }
     sum
 }
 
-fn reading(s: &[u8], place: usize, temperature: bool)
+fn reading(rt: &impl Print, s: &[u8], place: usize, temperature: bool) -> io::Result<()>
     requires { Placed s.now place }
 {
-    write(log_sample::name_of(s, place));
-    write(b" ");
-    show(log_sample::value_at(s, place, temperature));
-    write(b"\n");
+    write(rt, log_sample::name_of(s, place))?;
+    write(rt, b" ")?;
+    show(rt, log_sample::value_at(s, place, temperature))?;
+    write(rt, b"\n")
 }
 
-fn places(s: &[u8], first: usize, count: usize, temperature: bool)
+fn places(
+    rt: &impl Print,
+    s: &[u8],
+    first: usize,
+    count: usize,
+    temperature: bool,
+) -> io::Result<()>
     requires { Places s.now first count }
 {
     let mut i = 0;
     while i < count {
-        reading(s, first + i, temperature);
+        reading(rt, s, first + i, temperature)?;
         i += 1;
     }
+    Ok(())
 }
 
-fn area(s: &[u8]) {
+fn area(rt: &impl Print, s: &[u8]) -> io::Result<()> {
     if !log_readings::good(s) {
-        write(b"refused\n");
-        return;
+        return write(rt, b"refused\n");
     }
-    write(b"good\n");
-    places(s, 0, log_readings::temperatures(s), true);
-    places(s, 4, log_readings::utilizations(s), false);
+    write(rt, b"good\n")?;
+    places(rt, s, 0, log_readings::temperatures(s), true)?;
+    places(rt, s, 4, log_readings::utilizations(s), false)
 }
 
 fn after(at: usize, end: usize) -> usize
@@ -168,23 +161,24 @@ fn after(at: usize, end: usize) -> usize
     at + 134
 }
 
-fn areas(b: &[u8]) {
+fn areas(rt: &impl Print, b: &[u8]) -> io::Result<()> {
     let mut at = 0;
     while at < b.len() {
         let next = after(at, b.len());
-        area(&b[at..next]);
+        area(rt, &b[at..next])?;
         at = next;
     }
+    Ok(())
 }
 
-fn main() {
-    patterns();
-    more_patterns();
-    decimal();
-    portions();
-    io::print_hex(STDOUT_FILENO, sweep(2654435769, 2000) as u64, 8);
-    write(b"\n");
-    let mut input = io::buffer();
-    let n = io::read_full(STDIN_FILENO, &mut input);
-    areas(&input[..n]);
+fn main(rt: HostRuntime) -> io::Result<()> {
+    patterns(&rt)?;
+    more_patterns(&rt)?;
+    decimal(&rt)?;
+    portions(&rt)?;
+    let sum = sweep(2654435769, 2000);
+    println!(rt; "{sum:08x}")?;
+    let mut input = [0u8; 4096];
+    let n = program_words::read_full(&mut rt.reader(), &mut input)?;
+    areas(&rt, &input[..n])
 }

@@ -1,15 +1,15 @@
 // Numbers and words in columns.
-use libc::STDOUT_FILENO;
 use program_words::{part, write};
+use std::io;
 
 // At most 64 blanks.
-pub fn blanks(n: usize) {
+pub fn blanks(rt: &impl Print, n: usize) -> io::Result<()> {
     let all = [b' '; 64];
-    write(part(&all, 0, n));
+    write(rt, part(&all, 0, n))
 }
 
-pub fn newline() {
-    write(b"\n");
+pub fn newline(rt: &impl Print) -> io::Result<()> {
+    write(rt, b"\n")
 }
 
 // How many blanks stand before a number in seven places.
@@ -27,15 +27,16 @@ fn before(v: u64) -> usize {
 }
 
 // A number below 10000 in seven places.
-pub fn column(v: u64) {
-    blanks(before(v));
-    io::print_decimal(STDOUT_FILENO, v);
+pub fn column(rt: &impl Print, v: u64) -> io::Result<()> {
+    blanks(rt, before(v))?;
+    print!(rt; "{v}")
 }
 
 // Words in 64 places.
-pub fn label(b: &[u8]) {
-    write(b);
+pub fn label(rt: &impl Print, b: &[u8]) -> io::Result<()> {
+    write(rt, b)?;
     if b.len() < 64 {
-        blanks(64 - b.len());
+        blanks(rt, 64 - b.len())?;
     }
+    Ok(())
 }

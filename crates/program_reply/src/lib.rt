@@ -14,20 +14,27 @@ use crate::status::{answer_text, place_of_status};
 use crate::text::{sha1, under};
 use base_integers::as_u64::wide;
 use program_words::{part, write, write_hex};
+use std::io;
 
 // A new table: its title, and the heads of its columns.
-pub fn title(said: &[u8]) {
-    newline();
-    write(said);
-    write(b"\n    No.  Time   Who       Asked                                          ");
-    write(b"Answer                        Taken Written Entries  Reply, or its SHA-1\n");
+pub fn title(rt: &impl Print, said: &[u8]) -> io::Result<()> {
+    newline(rt)?;
+    write(rt, said)?;
+    write(
+        rt,
+        b"\n    No.  Time   Who       Asked                                          ",
+    )?;
+    write(
+        rt,
+        b"Answer                        Taken Written Entries  Reply, or its SHA-1\n",
+    )
 }
 
 // How a row begins: its number, and what was asked.
-pub fn row(number: u64, asked: &[u8]) {
-    column(number);
-    blanks(2);
-    label(asked);
+pub fn row(rt: &impl Print, number: u64, asked: &[u8]) -> io::Result<()> {
+    column(rt, number)?;
+    blanks(rt, 2)?;
+    label(rt, asked)
 }
 
 // The length of a reply's message.
@@ -50,48 +57,49 @@ fn code_of(reply: &[u8]) -> u8 {
 }
 
 // What a reply has in its body, and its value part.
-fn lines(reply: &[u8]) {
+fn lines(rt: &impl Print, reply: &[u8]) -> io::Result<()> {
     let n = message_length(reply);
-    contents(inside(inside(part(reply, 9, n), 7), 2));
+    contents(rt, inside(inside(part(reply, 9, n), 7), 2))?;
     let end = 9 + n;
     if end < reply.len() {
-        under(b"value", &reply[end..]);
+        under(rt, b"value", &reply[end..])?;
     }
+    Ok(())
 }
 
 // A reply of at most 24 bytes, or the digest of a longer one.
-fn shortly(reply: &[u8]) {
+fn shortly(rt: &impl Print, reply: &[u8]) -> io::Result<()> {
     if reply.len() == 0 {
-        return;
+        return Ok(());
     }
-    blanks(2);
+    blanks(rt, 2)?;
     if reply.len() <= 24 {
-        write_hex(reply);
+        write_hex(rt, reply)
     } else {
-        sha1(reply);
+        sha1(rt, reply)
     }
 }
 
 // The columns of counts, and the reply or its digest.
-fn counts(taken: usize, reply: &[u8], entries: usize) {
-    column(taken as u64);
-    blanks(1);
-    column(reply.len() as u64);
-    blanks(1);
-    column(entries as u64);
-    shortly(reply);
-    newline();
+fn counts(rt: &impl Print, taken: usize, reply: &[u8], entries: usize) -> io::Result<()> {
+    column(rt, taken as u64)?;
+    blanks(rt, 1)?;
+    column(rt, reply.len() as u64)?;
+    blanks(rt, 1)?;
+    column(rt, entries as u64)?;
+    shortly(rt, reply)?;
+    newline(rt)
 }
 
 // How a row ends whose call was refused.
-pub fn refused(number: u64, entries: usize) {
-    answer_text(number);
-    counts(0, b"", entries);
+pub fn refused(rt: &impl Print, number: u64, entries: usize) -> io::Result<()> {
+    answer_text(rt, number)?;
+    counts(rt, 0, b"", entries)
 }
 
 // How a row ends whose call was answered, and the lines under it.
-pub fn answered(taken: usize, reply: &[u8], entries: usize) {
-    answer_text(place_of_status(code_of(reply)));
-    counts(taken, reply, entries);
-    lines(reply);
+pub fn answered(rt: &impl Print, taken: usize, reply: &[u8], entries: usize) -> io::Result<()> {
+    answer_text(rt, place_of_status(code_of(reply)))?;
+    counts(rt, taken, reply, entries)?;
+    lines(rt, reply)
 }

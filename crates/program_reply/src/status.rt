@@ -1,8 +1,9 @@
 // The status of a reply, or the refusal of a call, by its name.
 use program_words::{part, write};
+use std::io;
 
 // What the box answered, in 28 bytes: 0 is none that is known, 1 to 7 are the refusals, 8 and above the statuses.
-pub fn answer_text(place: u64) {
+pub fn answer_text(rt: &impl Print, place: u64) -> io::Result<()> {
     let texts = b"?                           \
           refusal 1 OUT_SHORT         \
           refusal 2 STORE_BAD         \
@@ -23,8 +24,9 @@ pub fn answer_text(place: u64) {
           INVALID_REQUEST (16)        \
           CONNECTION_TERMINATED (20)  ";
     if place < 19 {
-        write(part(texts, 28 * place as usize, 28));
+        write(rt, part(texts, 28 * place as usize, 28))?;
     }
+    Ok(())
 }
 
 // Where the text of a status stands.

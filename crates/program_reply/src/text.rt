@@ -1,56 +1,54 @@
 // Bytes as text, or as their SHA-1.
 use crate::columns::{blanks, newline};
-use base_integers::as_u64::wide;
-use libc::STDOUT_FILENO;
 use program_words::{part, write, write_hex};
 use signature_sha1::Digest;
+use std::io;
 
-fn glyph(c: u8) {
+fn glyph(rt: &impl Print, c: u8) -> io::Result<()> {
     if c < 32 || 126 < c {
-        write(b"\\");
-        io::print_hex(STDOUT_FILENO, wide(c), 2);
-        return;
+        write(rt, b"\\")?;
+        return print!(rt; "{c:02x}");
     }
     let one = [c];
-    write(&one);
+    write(rt, &one)
 }
 
 // Bytes as text: of one that is no printable character, the hex.
-pub fn text(b: &[u8]) {
+pub fn text(rt: &impl Print, b: &[u8]) -> io::Result<()> {
     let mut i = 0;
     while i < b.len() {
-        glyph(b[i]);
+        glyph(rt, b[i])?;
         i += 1;
     }
+    Ok(())
 }
 
 // The SHA-1 in hex.
-pub fn sha1(b: &[u8]) {
+pub fn sha1(rt: &impl Print, b: &[u8]) -> io::Result<()> {
     if let Digest::Made(s) = signature_sha1::sha1(b) {
         let d = signature_sha1::bytes(s);
-        write_hex(&d);
+        write_hex(rt, &d)?;
     }
+    Ok(())
 }
 
-fn shown(b: &[u8]) {
+fn shown(rt: &impl Print, b: &[u8]) -> io::Result<()> {
     if b.len() <= 64 {
-        text(b);
-        return;
+        return text(rt, b);
     }
-    text(part(b, 0, 64));
-    write(b" .. ");
-    io::print_decimal(STDOUT_FILENO, b.len() as u64);
-    write(b" bytes");
+    text(rt, part(b, 0, 64))?;
+    let n = b.len();
+    print!(rt; " .. {n} bytes")
 }
 
 // A line under a row, with at most 64 bytes of what is shown; none for no bytes.
-pub fn under(name: &[u8], b: &[u8]) {
+pub fn under(rt: &impl Print, name: &[u8], b: &[u8]) -> io::Result<()> {
     if b.len() == 0 {
-        return;
+        return Ok(());
     }
-    blanks(26);
-    write(name);
-    blanks(1);
-    shown(b);
-    newline();
+    blanks(rt, 26)?;
+    write(rt, name)?;
+    blanks(rt, 1)?;
+    shown(rt, b)?;
+    newline(rt)
 }

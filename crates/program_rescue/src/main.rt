@@ -8,9 +8,11 @@
 //   rescue LENGTH LABEL    the rescue, with a report of so many bytes, each 255 before
 #![tactic(auto)]
 
-use libc::{STDIN_FILENO, STDOUT_FILENO};
 use program_reply::text::sha1;
-use program_words::{first, number, part, place_of, rest, unhex, word, write, write_hex};
+use program_words::{
+    first, number, part, place_of, read_full, rest, unhex, word, write, write_hex,
+};
+use std::io;
 use store_rescue::rule::Rescued;
 
 // Room for 129 blocks: one more than a store may have.
@@ -24,31 +26,30 @@ fn number_of(r: Rescued) -> u64 {
     }
 }
 
-fn show(label: &[u8], r: u64, report: &[u8], store: &[u8]) {
-    write(label);
-    write(b": ");
-    io::print_decimal(STDOUT_FILENO, r);
-    write(b" ");
-    write_hex(report);
-    write(b" ");
-    sha1(store);
-    write(b"\n");
+fn show(rt: &impl Print, label: &[u8], r: u64, report: &[u8], store: &[u8]) -> io::Result<()> {
+    write(rt, label)?;
+    print!(rt; ": {r} ")?;
+    write_hex(rt, report)?;
+    write(rt, b" ")?;
+    sha1(rt, store)?;
+    write(rt, b"\n")
 }
 
-fn rescued(label: &[u8], store: &mut [u8], report: &mut [u8]) {
+fn rescued(rt: &impl Print, label: &[u8], store: &mut [u8], report: &mut [u8]) -> io::Result<()> {
     let r = store_rescue::rescue::rescue(store, report);
-    show(label, number_of(r), report, store);
+    show(rt, label, number_of(r), report, store)
 }
 
 // The rescue over what is lent.
-fn rescue(said: &[u8], room: &mut [u8], length: usize) {
+fn rescue(rt: &impl Print, said: &[u8], room: &mut [u8], length: usize) -> io::Result<()> {
     let mut reports = [255u8; 256];
     let n = number(said) as usize;
     if length <= room.len() {
         if n <= 256 {
-            rescued(rest(said), &mut room[0..length], &mut reports[0..n]);
+            rescued(rt, rest(said), &mut room[0..length], &mut reports[0..n])?;
         }
     }
+    Ok(())
 }
 
 fn overwrite(said: &[u8], room: &mut [u8]) {
@@ -59,36 +60,43 @@ fn overwrite(said: &[u8], room: &mut [u8]) {
 }
 
 // Plays an event, and gives how many bytes are lent after it.
-fn event(line: &[u8], room: &mut Room, kept: &mut Room, length: usize) -> usize {
+fn event(
+    rt: &impl Print,
+    line: &[u8],
+    room: &mut Room,
+    kept: &mut Room,
+    length: usize,
+) -> io::Result<usize> {
     let said = rest(line);
     match first(line) {
         b's' => {
             *room = [0u8; 66048];
-            return number(said) as usize;
+            return Ok(number(said) as usize);
         }
         b'b' => overwrite(said, room),
         b'k' => *kept = *room,
         b'a' => *room = *kept,
-        b'r' => rescue(said, room, length),
+        b'r' => rescue(rt, said, room, length)?,
         _ => {}
     }
-    length
+    Ok(length)
 }
 
-fn events(s: &[u8], room: &mut Room, kept: &mut Room) {
+fn events(rt: &impl Print, s: &[u8], room: &mut Room, kept: &mut Room) -> io::Result<()> {
     let mut length = 0;
     let mut at = 0;
     while at < s.len() {
         let end = place_of(s, b'\n', at);
-        length = event(&s[at..end], room, kept, length);
+        length = event(rt, &s[at..end], room, kept, length)?;
         at = end + 1;
     }
+    Ok(())
 }
 
-fn main() {
+fn main(rt: HostRuntime) -> io::Result<()> {
     let mut room = [0u8; 66048];
     let mut kept = [0u8; 66048];
     let mut s = [0u8; 131072];
-    let n = io::read_full(STDIN_FILENO, &mut s);
-    events(part(&s, 0, n), &mut room, &mut kept);
+    let n = read_full(&mut rt.reader(), &mut s)?;
+    events(&rt, part(&s, 0, n), &mut room, &mut kept)
 }

@@ -19,12 +19,12 @@
 use access_record::Record;
 use access_record::offsets::RECORD_BYTES;
 use device::Response;
-use libc::STDIN_FILENO;
 use program_host::slots::{Slots, connection_at, keep};
 use program_host::{Host, Readings, Store, row};
 use program_reply::{answered, refused};
-use program_words::{first, number, part, place_of, rest, unhex, word};
+use program_words::{first, number, part, place_of, read_full, rest, unhex, word};
 use protocol_connection::Connection;
+use std::io;
 
 // How many entries the lent store has.
 fn entries(store: &[u8], host: Host) -> usize {
@@ -32,28 +32,35 @@ fn entries(store: &[u8], host: Host) -> usize {
 }
 
 // Shows a response, and gives the connection after it.
-fn show(a: Response, c: Connection, out: &[u8], entries: usize) -> Connection {
+fn show(
+    rt: &impl Print,
+    a: Response,
+    c: Connection,
+    out: &[u8],
+    entries: usize,
+) -> io::Result<Connection> {
     match a {
-        Response::OutShort => refused(1, entries),
-        Response::StoreBad => refused(2, entries),
-        Response::DeviceBad => refused(3, entries),
-        Response::Closed => refused(4, entries),
-        Response::More => refused(5, entries),
-        Response::ReadingsBad => refused(7, entries),
+        Response::OutShort => refused(rt, 1, entries)?,
+        Response::StoreBad => refused(rt, 2, entries)?,
+        Response::DeviceBad => refused(rt, 3, entries)?,
+        Response::Closed => refused(rt, 4, entries)?,
+        Response::More => refused(rt, 5, entries)?,
+        Response::ReadingsBad => refused(rt, 7, entries)?,
         Response::Answered {
             written,
             taken,
             connection,
         } => {
-            answered(taken, part(out, 0, written), entries);
-            return connection;
+            answered(rt, taken, part(out, 0, written), entries)?;
+            return Ok(connection);
         }
     }
-    c
+    Ok(c)
 }
 
 // The answering call over what is lent; refusal 0 stands for more than there is to lend.
 fn ask(
+    rt: &impl Print,
     store: &mut [u8],
     device: &mut Record,
     readings: &[u8],
@@ -61,7 +68,7 @@ fn ask(
     input: &[u8],
     out: &mut [u8],
     host: Host,
-) -> Connection {
+) -> io::Result<Connection> {
     let n = host.store;
     let room = host.room;
     if n <= store.len() {
@@ -74,26 +81,28 @@ fn ask(
                 input,
                 &mut out[0..room],
             );
-            return show(a, c, out, entries(store, host));
+            return show(rt, a, c, out, entries(store, host));
         }
     }
-    refused(0, entries(store, host));
-    c
+    refused(rt, 0, entries(store, host))?;
+    Ok(c)
 }
 
 // Sends bytes in hex, shows what was answered, and gives the connection after it.
 fn exchange(
+    rt: &impl Print,
     sent: &[u8],
     store: &mut Store,
     device: &mut Record,
     readings: &Readings,
     c: Connection,
     host: Host,
-) -> Connection {
+) -> io::Result<Connection> {
     let mut input = [0u8; 4096];
     let mut out = [0u8; 4096];
     let n = unhex(sent, &mut input);
     ask(
+        rt,
         store,
         device,
         readings,
@@ -105,46 +114,46 @@ fn exchange(
 }
 
 fn send(
+    rt: &impl Print,
     said: &[u8],
     store: &mut Store,
     device: &mut Record,
     readings: &Readings,
     slots: &mut Slots,
     host: Host,
-) -> Host {
+) -> io::Result<Host> {
     let after = rest(said);
     let slot = number(said);
-    let next = row(rest(after), host);
+    let next = row(rt, rest(after), host)?;
     let c = connection_at(slots, slot);
-    keep(
-        slots,
-        slot,
-        exchange(word(after), store, device, readings, c, host),
-    );
-    next
+    let c = exchange(rt, word(after), store, device, readings, c, host)?;
+    keep(slots, slot, c);
+    Ok(next)
 }
 
 fn event(
+    rt: &impl Print,
     line: &[u8],
     store: &mut Store,
     device: &mut Record,
     readings: &mut Readings,
     slots: &mut Slots,
     host: Host,
-) -> Host {
+) -> io::Result<Host> {
     if first(line) == b's' {
-        return send(rest(line), store, device, readings, slots, host);
+        return send(rt, rest(line), store, device, readings, slots, host);
     }
-    program_host::event(line, store, device, readings, slots, host)
+    program_host::event(rt, line, store, device, readings, slots, host)
 }
 
 fn day(
+    rt: &impl Print,
     s: &[u8],
     store: &mut Store,
     device: &mut Record,
     readings: &mut Readings,
     slots: &mut Slots,
-) {
+) -> io::Result<()> {
     let mut host = Host {
         store: 0,
         room: 4096,
@@ -153,23 +162,25 @@ fn day(
     let mut at = 0;
     while at < s.len() {
         let end = place_of(s, b'\n', at);
-        host = event(&s[at..end], store, device, readings, slots, host);
+        host = event(rt, &s[at..end], store, device, readings, slots, host)?;
         at = end + 1;
     }
+    Ok(())
 }
 
-fn main() {
-    let mut store = io::large_buffer();
+fn main(rt: HostRuntime) -> io::Result<()> {
+    let mut store = [0u8; 65536];
     let mut device = [0u8; RECORD_BYTES];
     let mut readings = [0u8; 134];
     let mut slots = [0u64; 24];
     let mut s = [0u8; 131072];
-    let n = io::read_full(STDIN_FILENO, &mut s);
+    let n = read_full(&mut rt.reader(), &mut s)?;
     day(
+        &rt,
         part(&s, 0, n),
         &mut store,
         &mut device,
         &mut readings,
         &mut slots,
-    );
+    )
 }

@@ -4,55 +4,58 @@
 
 ghost use Rattle.std.specs.Prelude.{◌≡◌, length};
 
-use libc::STDOUT_FILENO;
+use std::io;
 use store_layout::{DeleteAnswer, PutAnswer};
 use store_local_read::Local;
 
-fn main() {
+fn main(rt: HostRuntime) -> io::Result<()> {
     let mut lent = [0u8; 65536];
     store_write::write::blank(&mut lent);
-    fill(&mut lent);
-    show(b"full ", 128, put(&mut lent, 128), &lent);
-    show(b"over ", 261, put(&mut lent, 261), &lent);
-    thin(&mut lent);
-    refill(&mut lent);
-    read(&lent, 5);
-    read(&lent, 4);
-    read(&lent, 108);
-    show(b"again", 300, put(&mut lent, 300), &lent);
+    fill(&rt, &mut lent)?;
+    show(&rt, b"full ", 128, put(&mut lent, 128), &lent)?;
+    show(&rt, b"over ", 261, put(&mut lent, 261), &lent)?;
+    thin(&rt, &mut lent)?;
+    refill(&rt, &mut lent)?;
+    read(&rt, &lent, 5)?;
+    read(&rt, &lent, 4)?;
+    read(&rt, &lent, 108)?;
+    show(&rt, b"again", 300, put(&mut lent, 300), &lent)?;
     lent[512] = 2;
-    read(&lent, 5);
+    read(&rt, &lent, 5)
 }
 
 // 128 entries, in the order of 37 times the place; every eighth is shown.
-fn fill(lent: &mut [u8]) {
+fn fill(rt: &impl Print, lent: &mut [u8]) -> io::Result<()> {
     let mut i: usize = 0;
     while i < 128 {
         let n = i * 37 % 128;
         let r = put(lent, n);
         if i % 8 == 7 {
-            show(b"put  ", n, r, lent);
+            show(rt, b"put  ", n, r, lent)?;
         }
         i += 1;
     }
+    Ok(())
 }
 
 // Every fifth entry deleted.
-fn thin(lent: &mut [u8]) {
+fn thin(rt: &impl Print, lent: &mut [u8]) -> io::Result<()> {
     let mut n: usize = 4;
     while n < 130 {
-        show(b"del  ", n, delete(lent, n), lent);
+        show(rt, b"del  ", n, delete(lent, n), lent)?;
         n += 5;
     }
+    Ok(())
 }
 
 // The room used again, by keys of other lengths.
-fn refill(lent: &mut [u8]) {
+fn refill(rt: &impl Print, lent: &mut [u8]) -> io::Result<()> {
     let mut n: usize = 201;
     while n < 227 {
-        show(b"put  ", n, put(lent, n), lent);
+        show(rt, b"put  ", n, put(lent, n), lent)?;
         n += 1;
     }
+    Ok(())
 }
 
 // Entry n: its key is 107 n % 64 times and then n % 256; version, tag and value rise from n.
@@ -111,24 +114,25 @@ fn delete_key(lent: &mut [u8], key: &[u8], n: usize) -> u64
 }
 
 // What a local read of entry n's key finds, and the value's Adler-32.
-fn read(lent: &[u8], n: usize) {
+fn read(rt: &impl Print, lent: &[u8], n: usize) -> io::Result<()> {
     let mut key = [107u8; 64];
     let k = n % 64;
     key[k] = (n % 256) as u8;
-    read_key(lent, &key, n);
+    read_key(rt, lent, &key, n)
 }
 
-fn read_key(lent: &[u8], key: &[u8], n: usize)
+fn read_key(rt: &impl Print, lent: &[u8], key: &[u8], n: usize) -> io::Result<()>
     requires { length key.now ≡ 64 }
 {
     let k = n % 64 + 1;
     let r = number(store_local_read::local_find(lent, &key[0..k]));
     show(
+        rt,
         b"read ",
         n,
         r,
         store_local_read::local_read(lent, &key[0..k]),
-    );
+    )
 }
 
 fn number(r: Local) -> u64 {
@@ -147,15 +151,10 @@ fn rise(out: &mut [u8], n: usize) {
     }
 }
 
-fn show(name: &[u8], n: usize, answer: u64, bytes: &[u8]) {
-    io::write_all(STDOUT_FILENO, name);
-    io::write_all(STDOUT_FILENO, b" ");
-    io::print_decimal(STDOUT_FILENO, n as u64);
-    io::write_all(STDOUT_FILENO, b" ");
-    io::print_decimal(STDOUT_FILENO, answer);
-    io::write_all(STDOUT_FILENO, b" ");
-    io::print_hex(STDOUT_FILENO, adler(bytes), 8);
-    io::write_all(STDOUT_FILENO, b"\n");
+fn show(rt: &impl Print, name: &[u8], n: usize, answer: u64, bytes: &[u8]) -> io::Result<()> {
+    rt.write_all(name)?;
+    let sum = adler(bytes);
+    println!(rt; " {n} {answer} {sum:08x}")
 }
 
 fn adler(bytes: &[u8]) -> u64 {

@@ -1,10 +1,11 @@
 // Lines of text that programs read and write: words, numbers in decimal, bytes in hex.
 #![tactic(auto)]
 
-ghost use Rattle.std.specs.Prelude.{◌<◌, ◌≤◌, ◌+◌, length};
+ghost use Rattle.std.specs.Prelude.{◌<◌, ◌≤◌, ◌+◌, length, IfOk};
 
 use base_integers::as_u64::wide;
-use libc::STDOUT_FILENO;
+use std::io;
+use std::io::Read;
 
 // The place of the first byte b, or the end.
 pub fn place_of(s: &[u8], b: u8, from: usize) -> usize
@@ -103,15 +104,32 @@ pub fn unhex(s: &[u8], out: &mut [u8]) -> usize
     i
 }
 
-pub fn write(b: &[u8]) {
-    io::write_all(STDOUT_FILENO, b);
+// Reads until out is full or the input ends, and gives how many bytes were read.
+pub fn read_full(input: &mut impl Read, out: &mut [u8]) -> io::Result<usize>
+    ensures { IfOk result (λ n. n ≤ length out.new) }
+{
+    let mut done = 0;
+    while done < out.len() {
+        let n = input.read(&mut out[done..])?;
+        if n == 0 {
+            break;
+        }
+        done += n;
+    }
+    Ok(done)
+}
+
+pub fn write(rt: &impl Print, b: &[u8]) -> io::Result<()> {
+    rt.write_all(b)
 }
 
 // Writes bytes in hex.
-pub fn write_hex(b: &[u8]) {
+pub fn write_hex(rt: &impl Print, b: &[u8]) -> io::Result<()> {
     let mut i = 0;
     while i < b.len() {
-        io::print_hex(STDOUT_FILENO, wide(b[i]), 2);
+        let byte = b[i];
+        print!(rt; "{byte:02x}")?;
         i += 1;
     }
+    Ok(())
 }

@@ -7,38 +7,38 @@ use fields_write_bytes::Maybe;
 use fields_write_bytes_field::push_raw;
 use fields_write_field::{push_head, push_int};
 use fields_write_optional::{push_maybe, push_nonempty, push_nonzero};
-use libc::STDOUT_FILENO;
 use program_words::write_hex;
+use std::io;
 
-fn show(b: &[u8]) {
-    write_hex(b);
-    io::write_all(STDOUT_FILENO, b"\n");
+fn show(rt: &impl Print, b: &[u8]) -> io::Result<()> {
+    write_hex(rt, b)?;
+    rt.write_all(b"\n")
 }
 
 // Field 1, a number.
-fn number(v: u64) {
+fn number(rt: &impl Print, v: u64) -> io::Result<()> {
     let mut out = [0u8; 64];
     let a = push_int(&mut out, 64, 1, v);
-    show(&out[a..]);
+    show(rt, &out[a..])
 }
 
 // Field 2, bytes.
-fn text(b: &[u8; 7]) {
+fn text(rt: &impl Print, b: &[u8; 7]) -> io::Result<()> {
     let mut out = [0u8; 64];
     let a = push_raw(&mut out, 64, 2, b);
-    show(&out[a..]);
+    show(rt, &out[a..])
 }
 
 // Field 3, a message with a number in field 1.
-fn embedded(v: u64) {
+fn embedded(rt: &impl Print, v: u64) -> io::Result<()> {
     let mut out = [0u8; 64];
     let a = push_int(&mut out, 64, 1, v);
     let b = push_head(&mut out, a, 3, 64 - a);
-    show(&out[b..]);
+    show(rt, &out[b..])
 }
 
 // The reply to NOOP: connection 1, sequence 2.
-fn noop_response() {
+fn noop_response(rt: &impl Print) -> io::Result<()> {
     let mut out = [0u8; 128];
     let a = push_int(&mut out, 128, 1, 1);
     let b = push_head(&mut out, a, 3, 128 - a);
@@ -46,7 +46,7 @@ fn noop_response() {
     let d = push_maybe(&mut out, c, 6, Maybe::Number(2));
     let e = push_int(&mut out, d, 3, 1);
     let f = push_head(&mut out, e, 1, b - e);
-    show(&out[f..]);
+    show(rt, &out[f..])
 }
 
 // A body with the keyValue of a found entry.
@@ -62,7 +62,13 @@ fn found(out: &mut [u8], at: usize, key: &[u8], version: &[u8], tag: &[u8], algo
 }
 
 // The reply to GET: connection 1, sequence 3. Empty bytes and algorithm 0 are left out.
-fn get_response(key: &[u8], version: &[u8], tag: &[u8], algorithm: u64) {
+fn get_response(
+    rt: &impl Print,
+    key: &[u8],
+    version: &[u8],
+    tag: &[u8],
+    algorithm: u64,
+) -> io::Result<()> {
     let mut out = [0u8; 512];
     if key.len() <= 64 && version.len() <= 16 && tag.len() <= 32 {
         let a = push_int(&mut out, 512, 1, 1);
@@ -73,33 +79,34 @@ fn get_response(key: &[u8], version: &[u8], tag: &[u8], algorithm: u64) {
         let f = push_int(&mut out, e, 6, 3);
         let g = push_int(&mut out, f, 3, 1);
         let h = push_head(&mut out, g, 1, d - g);
-        show(&out[h..]);
+        show(rt, &out[h..])?;
     }
+    Ok(())
 }
 
 // Connection 1, code 20.
-fn closing() {
+fn closing(rt: &impl Print) -> io::Result<()> {
     let mut out = [0u8; 64];
     let a = push_int(&mut out, 64, 1, 20);
     let b = push_head(&mut out, a, 3, 64 - a);
     let c = push_int(&mut out, b, 3, 1);
     let d = push_head(&mut out, c, 1, b - c);
-    show(&out[d..]);
+    show(rt, &out[d..])
 }
 
-fn main() {
-    number(150);
-    text(b"testing");
-    embedded(150);
-    number(18446744073709551614);
-    number(18446744073709551615);
-    number(0);
-    number(127);
-    number(128);
-    number(9223372036854775807);
-    number(9223372036854775808);
-    noop_response();
-    get_response(b"k", b"v1", b"\x01\x02\x03\x04", 4);
-    get_response(b"k", b"", b"", 0);
-    closing();
+fn main(rt: HostRuntime) -> io::Result<()> {
+    number(&rt, 150)?;
+    text(&rt, b"testing")?;
+    embedded(&rt, 150)?;
+    number(&rt, 18446744073709551614)?;
+    number(&rt, 18446744073709551615)?;
+    number(&rt, 0)?;
+    number(&rt, 127)?;
+    number(&rt, 128)?;
+    number(&rt, 9223372036854775807)?;
+    number(&rt, 9223372036854775808)?;
+    noop_response(&rt)?;
+    get_response(&rt, b"k", b"v1", b"\x01\x02\x03\x04", 4)?;
+    get_response(&rt, b"k", b"", b"", 0)?;
+    closing(&rt)
 }

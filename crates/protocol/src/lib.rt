@@ -24,7 +24,7 @@ pub enum Operation {
 }
 
 // The permission that a request needs, by its number: none, one for its key, or one for any key.
-#[derive(Drop)]
+#[derive(Clone, Copy)]
 pub enum Permission {
     Free,
     Key(u8),
@@ -32,7 +32,7 @@ pub enum Permission {
 }
 
 // What the messageType of a request chooses.
-#[derive(Drop)]
+#[derive(Clone, Copy)]
 pub struct Choice {
     pub operation: Operation,
     pub permission: Permission,
@@ -40,7 +40,7 @@ pub struct Choice {
 }
 
 // What a messageType asks for, or that no built request has it.
-#[derive(Drop)]
+#[derive(Clone, Copy)]
 pub enum Asked {
     Request(Choice),
     NotBuilt,

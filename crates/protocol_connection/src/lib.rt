@@ -7,7 +7,7 @@ ghost use Rattle.protocol.specs.State.{connected, with_sequence, with_closed};
 ghost use Rattle.protocol_connection.specs.ConnectionOf.{connection_of};
 
 // Its number, whether it is protected or closed, and the last accepted sequence, where one was seen.
-#[derive(Drop)]
+#[derive(Clone, Copy)]
 pub struct Connection {
     pub number: i64,
     pub protected: bool,

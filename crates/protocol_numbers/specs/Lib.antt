@@ -1,3 +1,2 @@
 -- The numbers that the documents give, and that the definitions behave so.
 pub mod Documented
-pub mod DocumentedLaws

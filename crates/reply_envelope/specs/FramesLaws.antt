@@ -6,8 +6,8 @@ use Rattle.fields_encoding.specs.Encode.{int_field, head, len_field, encode}
 use Rattle.signature_sha1.specs.Sha1.{Answer}
 use Rattle.signature_hmac.specs.Hmac.{hmac, hmac_answer}
 use Rattle.fields_write_bytes.specs.Pushed.{Pushed, Starts}
-use Rattle.fields_write_bytes.specs.PushedLaws.{◌onto◌, again, pushed-sub, pushed_none, pushed-tail, pushed_whole, starts-again}
-use Rattle.fields_write_bytes.specs.TreePartsLaws.{raw-last, int-pushed, raw-done}
+use Rattle.fields_write_bytes.proofs.PushedLaws.{◌onto◌, again, pushed-sub, pushed_none, pushed-tail, pushed_whole, starts-again}
+use Rattle.fields_write_bytes.proofs.TreePartsLaws.{raw-last, int-pushed, raw-done}
 use Rattle.base_definitions.specs.BigEndian.{be32}
 use Rattle.protocol.specs.Frame.{frame}
 use Rattle.protocol.specs.Reply.{status_tree, signed_tree, closing_command, signed_reply, closing_reply}

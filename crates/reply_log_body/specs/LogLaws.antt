@@ -5,8 +5,8 @@ use Rattle.fields_wire.specs.Varint.{varint_up}
 use Rattle.fields_schema.specs.Tree.{map_o, guard, done, int, fix}
 use Rattle.fields_encoding.specs.Encode.{int_field, head, len_field, float_bytes, fix_field, encode, sub_o, each_sub}
 use Rattle.fields_write_bytes.specs.Pushed.{Pushed}
-use Rattle.fields_write_bytes.specs.PushedLaws.{◌onto◌, again, pushed-sub}
-use Rattle.fields_write_bytes.specs.TreePartsLaws.{int-last, fix-last, sub-last, int-pushed, sub_o-pushed, each_sub-pushed, sub-none, sub-some}
+use Rattle.fields_write_bytes.proofs.PushedLaws.{◌onto◌, again, pushed-sub}
+use Rattle.fields_write_bytes.proofs.TreePartsLaws.{int-last, fix-last, sub-last, int-pushed, sub_o-pushed, each_sub-pushed, sub-none, sub-some}
 use Rattle.log_readings.specs.Lent.{Sample}
 use Rattle.base_definitions.specs.Lists.{map_l}
 use Rattle.protocol.specs.Judge.{Capacity, log, capacity_of, log_with}

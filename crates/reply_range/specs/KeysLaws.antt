@@ -9,8 +9,8 @@ use Rattle.base_definitions.specs.Lists.{map_l}
 use Rattle.fields_schema.specs.Tree.{done}
 use Rattle.fields_encoding.specs.Encode.{head, len_field, encode, each}
 use Rattle.fields_write_bytes.specs.Pushed.{Pushed}
-use Rattle.fields_write_bytes.specs.PushedLaws.{again, pushed_none, pushed-sub}
-use Rattle.fields_write_bytes.specs.TreePartsLaws.{sub-last, each_pushed}
+use Rattle.fields_write_bytes.proofs.PushedLaws.{again, pushed_none, pushed-sub}
+use Rattle.fields_write_bytes.proofs.TreePartsLaws.{sub-last, each_pushed}
 use Rattle.store_block.specs.Entry.{Entry}
 use Rattle.protocol.specs.Judge.{range}
 use Rattle.reply_command.specs.Parts.{body_bytes}

@@ -8,7 +8,7 @@ use lib.ListN.{length, take, drop}
 use Rattle.access_record.specs.Table as access
 use Rattle.fields_lookup.specs.Views.{Inside, bytes_at}
 use Rattle.fields_lookup.specs.declared.parts.Part.{Part}
-use Rattle.fields_lookup.specs.SliceLaws.{slice_at}
+use Rattle.fields_lookup.proofs.SliceLaws.{slice_at}
 use Rattle.fields_lookup.proofs.Slotted.{length_at}
 use Rattle.request_scope.specs.Scope.{scope_view}
 use Rattle.request_scope.specs.ScopeLaws.{never}

@@ -10,13 +10,13 @@ use lib.ListN.{length, length-append}
 use borrow.Author.Tests.{leb-true, le-leb, lt-leb, lt-ltb}
 use Rattle.fields_schema.specs.Tree.{map_o, then_o, guard, is_some, listed, Tree, done, join, sub_at, tree_in, subs_at}
 use Rattle.fields_schema.specs.Merged.{joined, is_cons}
-use Rattle.fields_schema.specs.MergedLaws.{sub-join, sub_in, subs-join, sub-some}
-use Rattle.fields_schema.specs.OptionLaws.{none_of}
+use Rattle.fields_schema.proofs.MergedLaws.{sub-join, sub_in, subs-join, sub-some}
+use Rattle.fields_schema.proofs.OptionLaws.{none_of}
 use Rattle.fields_schema.specs.declared.Kind.{Kind}
 use Rattle.fields_schema.specs.declared.Kind.TheVariants as k
 use Rattle.base_definitions.specs.Options.{or_else}
 use Rattle.fields_lookup.specs.Views.{Reads, tree_of, bytes_at, signed_view, part_view, no_part, Lies, After, Merges, Sub}
-use Rattle.fields_lookup.specs.LevelLaws.{tree_is}
+use Rattle.fields_lookup.proofs.LevelLaws.{tree_is}
 use Rattle.fields_later.specs.LaterLaws.{signed-later, later-is}
 use Rattle.fields_lookup.specs.declared.parts.Signed.{Signed}
 use Rattle.fields_lookup.specs.declared.parts.Part.{Part}
@@ -26,7 +26,7 @@ use Rattle.protocol.specs.Command.{no_body, header_of, key_value_of, range_of, s
 use Rattle.protocol.specs.Judge.{no_key_value}
 use Rattle.protocol.specs.Reading.{security_once, sent_once, decodes}
 use Rattle.request_parts.specs.Views.{header_view, key_value_view, range_view, HeaderIs, KeyValueIs, RangeIs}
-use Rattle.request_parts.specs.ViewLaws.{header-view, key-value-view, range-view}
+use Rattle.request_parts.proofs.ViewLaws.{header-view, key-value-view, range-view}
 use Rattle.request_merged.specs.Setups.{SetupIs}
 use Rattle.request_merged.specs.Types.{log_types}
 use Rattle.request_command.specs.Views.{body_view, request_view, BodyIs, BodyLies, capped, CountIs}

@@ -33,7 +33,7 @@ pub struct Body {
 }
 
 // A command; ok is false where it does not decode.
-#[derive(Drop)]
+#[derive(Clone, Copy)]
 pub struct Request {
     pub ok: bool,
     pub headed: bool,

@@ -9,13 +9,13 @@ use lib.Dec.{eqb}
 use borrow.Author.Tests.{eqb-true}
 use Rattle.fields_schema.specs.Rules.{names_of}
 use Rattle.fields_schema.specs.Tree.{among, cons_if, ints_at}
-use Rattle.fields_schema.specs.MergedLaws.{ints-join}
+use Rattle.fields_schema.proofs.MergedLaws.{ints-join}
 use Rattle.protocol.specs.Command.{types_of}
 use Rattle.fields_schema.specs.declared.Kind.TheVariants as kind
 use Rattle.fields_schema.specs.declared.Names.TheVariants.{LogType}
 use Rattle.base_definitions.specs.Bits.{with_bit}
 use Rattle.access_record.specs.Table.{mask_of}
-use Rattle.access_record.specs.MaskLaws.{mask-more}
+use Rattle.access_record.proofs.MaskLaws.{mask-more}
 use Rattle.fields_lookup.specs.Views.{Inside, Reads, bytes_at, tree_of, After}
 use Rattle.fields_repeated.specs.Values.{numbers_in, numbers_of, WellFramed, NextNumIs}
 use Rattle.fields_repeated.specs.Repeated.{AllAmong}

@@ -5,8 +5,8 @@ use Rattle.fields_schema.specs.Tree.{among}
 use Rattle.base_definitions.specs.Bits.{bit}
 use Rattle.base_definitions.specs.Lists.{any, is_empty}
 use Rattle.access_record.specs.Table.{mask_of}
-use Rattle.base_definitions.specs.BitsLaws.{no-bit}
-use Rattle.access_record.specs.MaskLaws.{mask-has}
+use Rattle.base_definitions.proofs.BitsLaws.{no-bit}
+use Rattle.access_record.proofs.MaskLaws.{mask-has}
 use Rattle.protocol.specs.Judge.{types_good}
 use Rattle.request_log_types.specs.Types.{TypesAre}
 

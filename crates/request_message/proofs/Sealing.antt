@@ -13,7 +13,7 @@ use Rattle.fields_schema.specs.declared.Kind.TheVariants as k
 use Rattle.fields_lookup.specs.Views as views
 use Rattle.fields_lookup.specs.Views.{Reads, tree_of, bytes_at, num_view, part_view, Lies, Merges}
 use Rattle.fields_later.specs.LaterLaws.{signed-later, part-later, later-is}
-use Rattle.fields_lookup.specs.LevelLaws.{tree_is}
+use Rattle.fields_lookup.proofs.LevelLaws.{tree_is}
 use Rattle.fields_lookup.specs.declared.parts.Num.{Num}
 use Rattle.fields_lookup.specs.declared.parts.Part.{Part}
 use Rattle.fields_lookup.specs.declared.parts.Signed.{Signed}

@@ -6,12 +6,12 @@ use mathlib.Core.Option.{Option}
 use Rattle.fields_schema.specs.declared.Kind.TheVariants as k
 use Rattle.fields_decode.specs.declared.slots.Slots.{Slots}
 use Rattle.fields_lookup.specs.Views.{tree_of, bytes_at, Level, NumIs, SignedIs, PartIs}
-use Rattle.fields_lookup.specs.LevelLaws.{tree_is}
+use Rattle.fields_lookup.proofs.LevelLaws.{tree_is}
 use Rattle.fields_lookup.specs.declared.parts.Num.{Num}
 use Rattle.fields_lookup.specs.declared.parts.Part.{Part}
 use Rattle.fields_lookup.specs.declared.parts.Signed.{Signed}
 use Rattle.base_definitions.specs.Options.{or_else}
-use Rattle.protocol.specs.AlgorithmLaws.{key-value-most}
+use Rattle.protocol.proofs.AlgorithmLaws.{key-value-most}
 use Rattle.request_parts.specs.Views.{HeaderIs, KeyValueIs, RangeIs}
 
 module _ (s : List ℕ) (p : Part) (t : Slots) where

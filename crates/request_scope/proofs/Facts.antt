@@ -13,8 +13,8 @@ use Rattle.fields_decode.specs.declared.slots.Slots.{Slots}
 use Rattle.base_definitions.specs.Options.{or_else}
 use Rattle.base_definitions.specs.Lists.{all, within, is_empty}
 use Rattle.access_record.specs.Table.{named, mask_of, mask_good, offset_good, scope_good}
-use Rattle.access_record.specs.TableLaws.{both-snd}
-use Rattle.access_record.specs.MaskLaws.{mask-good}
+use Rattle.access_record.proofs.TableLaws.{both-snd}
+use Rattle.access_record.proofs.MaskLaws.{mask-good}
 use Rattle.fields_lookup.specs.Views.{Inside, bytes_at, tree_of, num_view, signed_view, NumIs, SignedIs, PartIs}
 use Rattle.fields_lookup.specs.declared.parts.Num.{Num}
 use Rattle.fields_lookup.specs.declared.parts.Part.{Part}

@@ -12,8 +12,8 @@ use Rattle.fields_schema.specs.declared.Kind.TheVariants as kind
 use Rattle.base_definitions.specs.Bits.{with_bit}
 use Rattle.base_definitions.specs.Lists.{all, within}
 use Rattle.access_record.specs.Table.{named, mask_of}
-use Rattle.access_record.specs.TableLaws.{within-high}
-use Rattle.access_record.specs.MaskLaws.{mask-more}
+use Rattle.access_record.proofs.TableLaws.{within-high}
+use Rattle.access_record.proofs.MaskLaws.{mask-more}
 use Rattle.fields_lookup.specs.Views.{Inside, bytes_at}
 use Rattle.fields_repeated.specs.Values.{numbers_in, WellFramed, NextNumIs}
 use Rattle.fields_repeated.specs.RepeatedLaws.{repeated-ints, reads-framed}

@@ -9,9 +9,9 @@ use Rattle.access_record.specs.Table as access
 use Rattle.base_definitions.specs.Lists.{all, within, map_l}
 use Rattle.access_record.specs.Table.{find_from, is_nobody, acl_good, acls_good, table_good}
 use Rattle.access_record.specs.Record.{table_of, table_bytes}
-use Rattle.access_record.specs.TableLaws.{both-fst, both-snd, within-high}
+use Rattle.access_record.proofs.TableLaws.{both-fst, both-snd, within-high}
 use Rattle.access_record.specs.Roomy.{RoomyAcls, RoomyTable}
-use Rattle.access_record.specs.ReadbackLaws.{roomy-acl, roomy-back}
+use Rattle.access_record.proofs.ReadbackLaws.{roomy-acl, roomy-back}
 use Rattle.access_table_write.specs.Write.{empty_table, put_acls}
 use Rattle.access_table_write.specs.WrittenLaws.{table-written}
 use Rattle.protocol.specs.Command.{Acl}

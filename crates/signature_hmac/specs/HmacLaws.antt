@@ -5,7 +5,7 @@ use Rattle.signature_sha1_compression.specs.declared.State.{State}
 use Rattle.signature_sha1.specs.Sha1.{be, bytes, Answer}
 use Rattle.base_definitions.specs.Lists.{same_bytes}
 use Rattle.signature_hmac.specs.Hmac.{hmac, hmac_answer, verified}
-use Rattle.base_definitions.specs.ListLaws.{same_bytes-self, same_bytes-true}
+use Rattle.base_definitions.proofs.ListLaws.{same_bytes-self, same_bytes-true}
 
 -- what a verification says, from what the call that makes the hmac answers
 pub verified-by : (key text sent : List ℕ) (a : Answer) → a ≡ hmac_answer key text

@@ -6,7 +6,7 @@ use native.Mathlib.Omega.{arith}
 use Rattle.store_layout.specs.declared.KeyPlace.{KeyPlace}
 use Rattle.store_layout.specs.Store.{entries_of, Good}
 use Rattle.store_layout.specs.Entries.{find_in, place_of, past_of, Sought, below, up_to}
-use Rattle.store_layout.specs.EntriesLaws.{find-below, find-up_to}
+use Rattle.store_layout.proofs.EntriesLaws.{find-below, find-up_to}
 
 module _ (l k : List ℕ) where
   pub from_place : (r : KeyPlace) → Sought l k r → Good l → place_of r ≡ below k (entries_of l)

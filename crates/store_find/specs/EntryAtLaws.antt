@@ -14,7 +14,7 @@ use Rattle.store_block.specs.Block.{block, decode}
 use Rattle.store_block.specs.BlockLaws.{sized, decode-block}
 use Rattle.store_layout.specs.Store.{blocks_in, blocks, bytes_of, entries_of, AllFit, Good}
 use Rattle.store_layout.specs.Entries.{EntryAt, no_parts}
-use Rattle.store_layout.specs.StoreLaws.{room, good_length, length-blocks, drop-bytes}
+use Rattle.store_layout.proofs.StoreLaws.{room, good_length, length-blocks, drop-bytes}
 
 by_cases {ℓ} : {X : Type ℓ} (a b : ℕ) → (a < b → X) → (b ≤ a → X) → X
 by_cases {X = X} a b f g = elim (dec_lt a b) [ yes p ↦ f p | no p ↦ g (omega arith) ]

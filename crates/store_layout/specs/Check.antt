@@ -4,7 +4,6 @@ use Rattle.store_block.specs.Order.{Below}
 use Rattle.store_block.specs.Entry.{Entry}
 use Rattle.store_block.specs.Block.{decode, BlockGood}
 use Rattle.store_layout.specs.Store.{bytes_of, AllFit, Above, Sorted}
-use Rattle.store_layout.specs.StoreLaws.{room}
 
 -- the blocks from a place on, when the key before them is k
 pub record GoodFrom (k l : List ℕ) (n : ℕ) : Type 0 where

@@ -1,5 +1,5 @@
 -- Entries with one put in, replaced or removed at a place.
-use Rattle.std.specs.Prelude.{List, ◌∷◌, ◌++◌, ℕ, suc, ◌+◌, take, drop}
+use Rattle.std.specs.Prelude.{List, ◌∷◌, ◌++◌, ℕ, suc, take, drop}
 use Rattle.store_block.specs.Entry.{Entry}
 
 -- the entries with e at place i, with e in place of the one there, and without the one there

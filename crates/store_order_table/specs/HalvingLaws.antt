@@ -15,8 +15,8 @@ use Rattle.store_layout.specs.declared.KeyPlace.{KeyPlace}
 use Rattle.store_layout.specs.declared.KeyPlace.TheVariants.{At, Gap}
 use Rattle.store_layout.specs.Store.{Above, Sorted}
 use Rattle.store_layout.specs.Entries.{by_order, find_from, find_in, place_of, past_of}
-use Rattle.store_layout.specs.CheckLaws.{less-not-equal}
-use Rattle.store_layout.specs.EntriesLaws.{find-up_to, up_to-most}
+use Rattle.store_layout.proofs.CheckLaws.{less-not-equal}
+use Rattle.store_layout.proofs.EntriesLaws.{find-up_to, up_to-most}
 use Rattle.store_order_table.specs.Halving.{Between}
 
 -- what a search over all finds

@@ -1,14 +1,7 @@
 pub mod State
-pub mod StateLaws
 pub mod Rescue
-pub mod KeysLaws
 pub mod Listed
-pub mod ListedLaws
 pub mod Survey
-pub mod SurveyLaws
 pub mod Kept
-pub mod KeptLaws
 pub mod Places
-pub mod PlacesLaws
 pub mod Report
-pub mod RescueLaws

@@ -18,9 +18,9 @@ use Rattle.store_layout.specs.declared.PutAnswer.TheVariants.{Stored, Full, Unfi
 use Rattle.store_layout.specs.declared.DeleteAnswer.TheVariants.{Deleted, Missing}
 use Rattle.store_layout.specs.Store.{blocks_in, bytes_of, entries_of, Good}
 use Rattle.store_layout.specs.Entries.{find_in, put_entry, roomy, has_room, put_answer, when_stored, put_store, delete_of, delete_answer, delete_store}
-use Rattle.store_layout.specs.StoreLaws.{room, insert-bytes, replace-bytes, remove-bytes}
+use Rattle.store_layout.proofs.StoreLaws.{room, insert-bytes, replace-bytes, remove-bytes}
 use Rattle.store_layout.specs.Splices.{insert_at, replace_at, remove_at}
-use Rattle.store_layout.specs.EntriesLaws.{in-gap, is_at}
+use Rattle.store_layout.proofs.EntriesLaws.{in-gap, is_at}
 use Rattle.store_write.specs.Change.{insert_answer, insert_store}
 
 module _ (l : List ℕ) (g : Good l) where

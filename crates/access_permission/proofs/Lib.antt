@@ -1,0 +1,2 @@
+-- Laws, in the order in which one needs another.
+pub mod VerdictLaws

@@ -1,0 +1,42 @@
+use mathlib.Core.Path.{◌≡◌, ◌∙◌, sym}
+use mathlib.Core.Bool.{true}
+use borrow.Author.Tests.{not-true, not-false}
+use Rattle.store_block.specs.Entry.{entry}
+use Rattle.store_layout.specs.Store.{store_good}
+use Rattle.store_layout.specs.declared.PutAnswer.TheVariants.{Stored, Full, Unfit}
+use Rattle.bench_store.specs.CallsLaws.{good-store, not-put, not-sized, put_as}
+use Rattle.bench_store.proofs.rt_put.Goals as goal
+use Rattle.bench_store.proofs.rt_put.Goals.{Else-not-check}
+
+good : (c : Else-not-check) → store_good c.args.store.now ≡ true
+good c = sym c.check.ensures ∙ c.if-not-check.false
+
+pub returns-then-not-check : goal.returns-then-not-check
+returns-then-not-check c =
+    let z = c.args in
+    not-put z.store.now (entry z.key.now z.version.now z.tag.now z.value.now z.algorithm) (sym c.check.ensures ∙ c.if-not-check.true)
+
+pub returns-then-not-sized : goal.returns-then-not-sized
+returns-then-not-sized c =
+    let z = c.args in
+    not-sized z.store.now (entry z.key.now z.version.now z.tag.now z.value.now z.algorithm) (good (goal.at.returns-then-not-sized c).Else-not-check) ((c.sized.ensures z.algorithm).no c.if-not-sized.true)
+
+pub put-requires : goal.put-requires
+put-requires c =
+    let z = c.args in
+    (good-store z.store.now (good (goal.at.put-requires c).Else-not-check), (c.sized.ensures z.algorithm).yes c.if-not-sized.false)
+
+pub returns-in-Stored : goal.returns-in-Stored
+returns-in-Stored c =
+    let z = c.args in
+    put_as z.store.now (entry z.key.now z.version.now z.tag.now z.value.now z.algorithm) (good (goal.at.returns-in-Stored c).Else-not-check) c.put.ensures.value c.put.ensures.store_after Stored c.in-Stored.is
+
+pub returns-in-Full : goal.returns-in-Full
+returns-in-Full c =
+    let z = c.args in
+    put_as z.store.now (entry z.key.now z.version.now z.tag.now z.value.now z.algorithm) (good (goal.at.returns-in-Full c).Else-not-check) c.put.ensures.value c.put.ensures.store_after Full c.in-Full.is
+
+pub returns-in-Unfit : goal.returns-in-Unfit
+returns-in-Unfit c =
+    let z = c.args in
+    put_as z.store.now (entry z.key.now z.version.now z.tag.now z.value.now z.algorithm) (good (goal.at.returns-in-Unfit c).Else-not-check) c.put.ensures.value c.put.ensures.store_after Unfit c.in-Unfit.is

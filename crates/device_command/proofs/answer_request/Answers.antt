@@ -1,0 +1,44 @@
+use mathlib.Core.Path.{◌≡◌, refl}
+use Rattle.base_integers.specs.Signed.{signed_of, word_of}
+use Rattle.base_integers.specs.SignedLaws.{word_kept}
+use Rattle.access_record.specs.Table.{acl_of}
+use Rattle.access_record.specs.Record.{table_of}
+use Rattle.protocol.specs.State.{State, with_sequence, lent}
+use Rattle.judge_header.specs.Rest.{type_in}
+use Rattle.fields_schema.specs.Tree.{guard}
+use Rattle.request_parts.specs.Views.{header_view}
+use Rattle.request_command.specs.Views.{body_view}
+use Rattle.protocol_connection.specs.ConnectionOf.{connection_of}
+use Rattle.device_command.proofs.Steps.{accepts, asked-as, bits, heard-by, refused}
+use Rattle.device_command.proofs.answer_request.Goals as goal
+
+pub status-requires : goal.status-requires
+status-requires c = (c.requires.0, c.requires.1)
+
+pub returns-then-code-ne0 : goal.returns-then-code-ne0
+returns-then-code-ne0 c =
+    let s = lent c.args.store.now c.args.device.now c.args.readings.now (connection_of c.args.received.sender.connection) in
+    let from = c.args.received.sender in
+    let q = c.args.received.request in
+    let g = c.heading_of-heading.result in
+    let k = c.heading_of-heading.ensures in
+    refused k s (signed_of (word_of from.identity)) (signed_of (word_of from.connection.number)) (signed_of (word_of g.sequence.value)) (word_of from.identity)
+    (word_kept from.identity c.type_inv.sender.0.1) (word_kept from.connection.number c.type_inv.connection.0.1) (word_kept g.sequence.value c.type_inv.sequence.1.0.1) c.reply_type.result c.reply_type.ensures c.args.signing_key.now (body_view c.args.command.now q.body) (acl_of (table_of c.args.device.now) from.acl) c.args.value.now c.header_fault-code.result _ _ _
+    (c.header_fault-code.ensures s (guard q.headed (header_view q.header)) (heard-by k s _ (word_kept g.version c.type_inv.heading.0.1))) c.if-code-ne0.true (c.status.ensures s)
+
+pub admit_and_perform-requires : goal.admit_and_perform-requires
+admit_and_perform-requires c =
+    (c.requires.0, c.requires.1, c.requires.2, c.requires.3, c.requires.4, c.requires.5, bits c.heading_of-heading.ensures (lent c.args.store.now c.args.device.now c.args.readings.now (connection_of c.args.received.sender.connection)))
+
+pub returns : goal.returns
+returns c =
+    let s = lent c.args.store.now c.args.device.now c.args.readings.now (connection_of c.args.received.sender.connection) in
+    let from = c.args.received.sender in
+    let q = c.args.received.request in
+    let g = c.heading_of-heading.result in
+    let k = c.heading_of-heading.ensures in
+    let e = guard q.headed (header_view q.header) in
+    accepts k s (signed_of (word_of from.identity)) (signed_of (word_of from.connection.number)) (signed_of (word_of g.sequence.value)) (word_of from.identity)
+    (word_kept from.identity c.type_inv.sender.0.1) (word_kept from.connection.number c.type_inv.connection.0.1) (word_kept g.sequence.value c.type_inv.sequence.1.0.1) c.reply_type.result c.reply_type.ensures c.args.signing_key.now (body_view c.args.command.now q.body) (acl_of (table_of c.args.device.now) from.acl) c.args.value.now c.header_fault-code.result _ _ _
+    (c.header_fault-code.ensures s e (heard-by k s _ (word_kept g.version c.type_inv.heading.0.1))) _ _ (connection_of c.accept.result) c.if-code-ne0.false c.accept.ensures
+    (c.admit_and_perform.ensures (with_sequence (connection_of from.connection) (word_of (signed_of (word_of g.sequence.value)))) (type_in e) refl (asked-as k s))

@@ -1,0 +1,3 @@
+-- Laws, in the order in which one needs another.
+pub mod PushedLaws
+pub mod TreePartsLaws

@@ -1,0 +1,4 @@
+-- Laws, in the order in which one needs another.
+pub mod MessageTypeLaws
+pub mod HeaderLaws
+pub mod RestLaws

@@ -1,0 +1,27 @@
+use native.Mathlib.Omega.{arith}
+use mathlib.Core.Path.{refl}
+use Rattle.base_integers.specs.Signed.{word_of}
+use Rattle.base_integers.specs.SignedLaws.{word_kept}
+use Rattle.protocol.specs.Judge.{log}
+use Rattle.reply_command.proofs.PartsLaws.{command-law}
+use Rattle.reply_command.specs.Repeated.{ack_of, command_to}
+use Rattle.reply_log_body.specs.Asked.{log_by}
+use Rattle.reply_envelope.specs.FramesLaws.{no_value, signed-whole, copied}
+use mir.Syntax.{w64}
+use mir.Val.{SFits}
+use borrow.Author.Rules.{rules}
+use Rattle.reply_log.proofs.put_log.Goals as goal
+
+pub returns : goal.returns
+returns c =
+    let a = c.args in
+    let to = a.reply_to in
+    let told : SFits w64 c.args.reply_to.identity = search rules in
+    let end = c.finish-d in
+    let body = log (log_by a.store.now a.readings.now a.parts) in
+    let command = command-law (word_of to.connection) (ack_of to) to.kind body 1 c.push_header-c.ensures.0
+    c.push_log-b.ensures.0
+    c.push_status-a.ensures.0 in
+    copied end.new.0 end.result 1024 (omega arith)
+    (signed-whole (command_to to body 1) _ (word_kept to.identity told.sfits) end.ensures.0 command (no_value 1024 _ refl))
+    c.copy.ensures

@@ -1,0 +1,86 @@
+use Prim.Native.Nat.{ℕ, ◌≤◌}
+use native.Mathlib.Omega.{arith}
+use mathlib.Core.Path.{◌≡◌, refl, sym, ap, subst, ◌∙◌}
+use mathlib.Core.Bool.{true}
+use lib.Dec.{T}
+use lib.IntN.{ℤ, pos, nat_abs}
+use lib.Signed.{non_neg}
+use mir.Syntax.{w8, w64}
+use mir.Val.{Fits}
+use mir.Facts.{to_z_pos}
+use borrow.Author.Tests.{not-true, not-false, leb-true}
+use Rattle.base_integers.specs.Signed.{signed_of, word_of}
+use Rattle.base_integers.specs.SignedLaws.{word_kept}
+use Rattle.access_record.specs.Table.{offset_good}
+use Rattle.access_record.proofs.OffsetLaws.{offset-good}
+use Rattle.fields_schema.specs.declared.Kind.TheVariants as kind
+use Rattle.fields_lookup.specs.Views.{Level, bytes_at}
+use Rattle.fields_lookup.proofs.Slotted.{level-sized, part-ready}
+use Rattle.request_scope.specs.ScopeLaws.{level-at}
+use Rattle.request_scope.proofs.Facts.{Facts, facts-of, scope-unnamed, scope-far, scope-long, scope-read}
+use Rattle.request_scope.proofs.read_scope.Goals as goal
+use Rattle.request_scope.proofs.read_scope.Goals.{After-offset_good, After-open_at-t, After-permissions_of-held, Else-not-offset_good}
+
+level : (c : After-open_at-t) → Level kind.Scope (bytes_at c.args.s.now c.args.p) c.open_at-t.result
+level c = level-at c.open_at-t.result c.requires c.open_at-t.ensures
+
+facts : (c : After-permissions_of-held) → let n = c.before.before.before.before in let z = n.before.before.before.before in
+    Facts z.args.s.now z.args.p n.part_of-value.result (word_of c.signed_or-offset.result) c.flag_of-tls.result c.permissions_of-held.result
+facts c =
+    let n = c.before.before.before.before in
+    let z = n.before.before.before.before in
+    let t = n.open_at-t in
+    let v = n.part_of-value in
+    facts-of z.args.s.now z.args.p t.result z.requires t.ensures v.result v.ensures n.signed_of.result (word_of c.signed_or-offset.result) n.signed_of.ensures c.signed_or-offset.ensures
+    c.num_of.result c.flag_of-tls.result c.num_of.ensures c.flag_of-tls.ensures c.permissions_of-held.result c.permissions_of-held.ensures
+
+-- the offset's word is judged
+judged : (c : After-offset_good) → offset_good (word_of c.signed_or-offset.result) ≡ c.offset_good.result
+judged c =
+    let n = c.signed_or-offset in
+    sym (c.offset_good.ensures ∙ ap offset_good (word_kept n.result n.type-inv))
+
+-- a small word stands for itself
+word_small : {v : ℕ} → v ≤ 64 → signed_of v ≡ pos v
+word_small h = to_z_pos w64 (omega (arith, h))
+
+pub open_at-t-requires : goal.open_at-t-requires
+open_at-t-requires c = c.requires.inside
+
+pub part_of-value-requires : goal.part_of-value-requires
+part_of-value-requires c =
+    part-ready kind.Scope c.args.s.now c.args.p c.open_at-t.result (level (goal.at.part_of-value-requires c).After-open_at-t) c.requires.inside 2 (omega arith) refl
+
+pub signed_of-requires : goal.signed_of-requires
+signed_of-requires c = (omega arith, level-sized _ _ _ (level (goal.at.signed_of-requires c).After-open_at-t))
+
+pub num_of-requires : goal.num_of-requires
+num_of-requires c = (omega arith, level-sized _ _ _ (level (goal.at.num_of-requires c).After-open_at-t))
+
+pub permissions_of-held-requires : goal.permissions_of-held-requires
+permissions_of-held-requires c = c.requires
+
+pub returns-then-not-ok : goal.returns-then-not-ok
+returns-then-not-ok c = scope-unnamed (facts (goal.at.returns-then-not-ok c).After-permissions_of-held) c.if-not-ok.true c.refused_scope.result c.refused_scope.ensures
+
+pub returns-then-not-offset_good : goal.returns-then-not-offset_good
+returns-then-not-offset_good c = let o = (goal.at.returns-then-not-offset_good c).After-offset_good in scope-far (facts o.before.before) (judged o ∙ c.if-not-offset_good.true) c.refused_scope-then-not-offset_good.result c.refused_scope-then-not-offset_good.ensures
+
+pub returns-then-value-gt64 : goal.returns-then-value-gt64
+returns-then-value-gt64 c = scope-long (facts (goal.at.returns-then-value-gt64 c).After-permissions_of-held) c.if-value-gt64.true c.refused_scope-then-value-gt64.result c.refused_scope-then-value-gt64.ensures
+
+near : (c : Else-not-offset_good) → offset_good (word_of c.signed_or-offset.result) ≡ true
+near c = judged c.before ∙ c.if-not-offset_good.false
+
+small : (c : Else-not-offset_good) → word_of c.signed_or-offset.result ≤ 64
+small c =
+    let w = word_of c.signed_or-offset.result in
+    leb-true w 64 (sym (offset-good w) ∙ near c)
+
+pub overflow_cast-result : goal.overflow_cast-result
+overflow_cast-result c =
+    let h = small (goal.at.overflow_cast-result c).Else-not-offset_good in
+    subst (λ (y : ℤ). T (non_neg y) × Fits w8 (nat_abs y)) (sym (word_small h)) (tt, record { fits = omega arith })
+
+pub returns : goal.returns
+returns c = let o = (goal.at.returns c).Else-not-offset_good in let l = o.before.before in scope-read (facts l.before) (not-false _ l.if-not-ok.false) (near o) c.if-value-gt64.false _ (ap nat_abs (word_small (small o)))
