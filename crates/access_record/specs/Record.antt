@@ -5,7 +5,7 @@
 --   Scope place: 0 offset, 1 value length, 2-3 permission mask, 4 TlsRequired (not zero: yes), 5-7 not used, 8-71 value.
 --
 -- What is not used is not looked at, and is written as zero.
-use Rattle.std.specs.Prelude.{◌≡◌, Bool, true, false, not, List, [], ◌∷◌, ◌++◌, ℕ, zero, suc, ◌+◌, ◌-◌, ◌*◌, ◌/◌, ◌%◌, ◌<◌, eqb, length, drop, get_or}
+use Rattle.std.specs.Prelude.{◌≡◌, Bool, true, false, not, List, [], ◌∷◌, ◌++◌, ℕ, zero, suc, ◌+◌, ◌*◌, ◌/◌, ◌%◌, ◌<◌, eqb, length, drop, get_or}
 use Rattle.base_definitions.specs.Lists.{fill}
 use Rattle.base_definitions.specs.BigEndian.{be32}
 use Rattle.access_record.specs.Table.{Scope, Acl, Table, table_good}

@@ -1,5 +1,5 @@
 -- Tables that have room in a record, good or not.
-use Rattle.std.specs.Prelude.{List, [], ◌∷◌, ◌-◌, ◌≤◌, length}
+use Rattle.std.specs.Prelude.{List, [], ◌∷◌, ◌≤◌, length}
 use Rattle.access_record.specs.Table.{Scope, Acl, Table}
 
 -- ---- scopes and ACLs that have room

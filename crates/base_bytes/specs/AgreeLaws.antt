@@ -1,6 +1,6 @@
 -- A comparison by the differences of all bytes.
 use Rattle.std.specs.Prelude.{◌≡◌, refl, false, List, ℕ, ◌+◌, ◌<◌, eqb, length, get_or}
-use Rattle.std.proofs.Common.{sym, ap, ◌∙◌, arith, ext_get_or, below_more, eq-eqb, eqb-true}
+use Rattle.std.proofs.Common.{ap, arith, ext_get_or, below_more, eq-eqb, eqb-true}
 use Rattle.std.specs.Int.Bits.{bit_or, bit_xor, or_add_and, xor_add_and, xor_self}
 use Rattle.std.proofs.lemmas.Nat.{and_le_l, and_le_r}
 use Rattle.base_definitions.proofs.ListLaws.{same_bytes-is}

@@ -1,5 +1,5 @@
 -- Fields before others that may not be there.
-use Rattle.std.specs.Prelude.{◌+◌, List, ◌++◌}
+use Rattle.std.specs.Prelude.{List, ◌++◌}
 use Rattle.std.proofs.Math.Option.{Option, none, some}
 use Rattle.fields_wire.specs.Wire.{Field}
 

@@ -1,5 +1,5 @@
 -- Two laws hold of whatever is made of the pieces of `Reader`: what follows does not change what is read, and what is left is shorter.
-use Rattle.std.specs.Prelude.{ℕ, ◌+◌, ◌-◌, ◌≤◌, ◌≡◌, refl, List, ◌++◌, Bool, true, false, cond, length, take, drop, leb}
+use Rattle.std.specs.Prelude.{ℕ, ◌+◌, ◌≤◌, ◌≡◌, refl, List, ◌++◌, Bool, true, false, cond, length, take, drop, leb}
 use Rattle.std.proofs.Common.{arith, ap, length-append, length-drop, leb-true, le-leb}
 use Rattle.std.proofs.lemmas.List.{take-append-le, drop-append-le}
 use Rattle.fields_wire.specs.Reader.{Got, nothing, got, then, Reader, and_then, give, fail, only, part}

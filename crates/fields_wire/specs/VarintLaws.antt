@@ -1,5 +1,5 @@
 -- What follows of the definition of `Varint`: the reader reads it back, its length, and that nothing shorter reads as the same number.
-use Rattle.std.specs.Prelude.{ℕ, zero, suc, ◌+◌, ◌*◌, ◌-◌, ◌/◌, ◌%◌, ◌^◌, ◌≤◌, ◌<◌, ◌≡◌, refl, List, [], ◌∷◌, ◌++◌, Bool, true, false, cond, length, ltb}
+use Rattle.std.specs.Prelude.{ℕ, zero, suc, ◌+◌, ◌*◌, ◌/◌, ◌%◌, ◌^◌, ◌≤◌, ◌<◌, ◌≡◌, refl, List, [], ◌∷◌, ◌++◌, Bool, true, false, cond, length, ltb}
 use Rattle.std.proofs.Common.{arith, ap, ltb-true, ltb-false, lt-ltb, le-ltb}
 use Rattle.fields_wire.specs.Reader.{nothing, got}
 use Rattle.fields_wire.specs.ReaderLaws.{never, choose-got}

@@ -1,5 +1,5 @@
 -- What follows of the definitions of `Wire`: a field is consumed, what follows it does not change it, the framing of an appended list.
-use Rattle.std.specs.Prelude.{ℕ, zero, suc, ◌+◌, ◌*◌, ◌-◌, ◌/◌, ◌%◌, ◌^◌, ◌≤◌, ◌<◌, ◌≡◌, refl, List, [], ◌∷◌, ◌++◌, Bool, true, false, cond, length, ltb, eqb}
+use Rattle.std.specs.Prelude.{ℕ, zero, suc, ◌+◌, ◌*◌, ◌/◌, ◌%◌, ◌^◌, ◌≤◌, ◌<◌, ◌≡◌, refl, List, [], ◌∷◌, ◌++◌, Bool, true, false, cond, length, ltb, eqb}
 use Rattle.std.proofs.Common.{arith, sym, ap, ◌∙◌, ltb-true}
 use Rattle.std.proofs.Math.Option.{Option, none, some}
 use Rattle.fields_wire.specs.Reader.{Got, nothing, got, Reader}

@@ -12,7 +12,6 @@ use lib.Ieee.Fits.{down_pos, round_is}
 use lib.Ieee.Exact.{HasValue}
 use lib.Ieee.Nearest.{closest}
 use lib.Ieee.Back.{round_whole}
-use lib.Ieee.Scale as Scale
 use lib.Ieee.Scale.{round_same}
 use Rattle.log_binary32.specs.Binary32.{portion}
 use Rattle.log_binary32.proofs.Pattern.{round-bits}

@@ -1,5 +1,5 @@
 -- What a range lists, by the run of places between its bounds.
-use Rattle.std.specs.Prelude.{◌≡◌, refl, Bool, true, false, not, cond, length, get_or, set}
+use Rattle.std.specs.Prelude.{◌≡◌, refl, Bool, true, false, not, cond, length, set}
 use Rattle.std.proofs.Math.Path.{sym, ap}
 use Rattle.std.proofs.Common.{ap₂, ◌∙◌}
 use mathlib.Core.List.{List, [], ◌∷◌, ◌++◌, reverse, append-nil, append_assoc}
@@ -11,7 +11,7 @@ use Rattle.std.proofs.Math.Seq.{take-nil}
 use Rattle.base_definitions.specs.Lists.{map_l, only}
 use Rattle.base_definitions.proofs.OnlyLaws.{only-only, only-reverse, map-reverse, map-append}
 use Rattle.base_definitions.specs.Options.{or_else}
-use Rattle.store_block.specs.Entry.{Entry, no_entry}
+use Rattle.store_block.specs.Entry.{Entry}
 use Rattle.store_layout.specs.Store.{Sorted}
 use Rattle.store_layout.specs.Entries.{below, up_to}
 use Rattle.store_layout.proofs.EntriesLaws.{below-most, up_to-most}

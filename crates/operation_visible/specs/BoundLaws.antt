@@ -2,7 +2,6 @@
 use Rattle.std.specs.Prelude.{◌≡◌, refl, Bool, true, false, not, cond, ◌&&◌, ◌||◌, ℕ, zero, suc, ◌+◌, ◌-◌, length, get_or}
 use Rattle.std.proofs.Common.{sym, ap, ap₂, ◌∙◌, arith}
 use mathlib.Core.List.{List, [], ◌∷◌, ◌++◌, reverse, reverse-cons}
-use Rattle.std.proofs.Math.Option.{Option}
 use Rattle.base_definitions.specs.Lists.{only, first}
 use Rattle.base_definitions.proofs.OnlyLaws.{only-only, only-alike, only-reverse}
 use Rattle.store_block.specs.declared.Order.{Order}

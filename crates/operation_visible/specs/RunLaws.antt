@@ -1,16 +1,13 @@
 -- Which entries a run has, and that what is skipped is hidden.
-use Rattle.std.specs.Prelude.{◌≡◌, Bool, not, ◌&&◌, length}
+use Rattle.std.specs.Prelude.{◌≡◌, Bool}
 use Rattle.std.proofs.Math.Path.{refl, ap}
-use Rattle.std.proofs.Common.{sym, ap₂, ◌∙◌}
 use Rattle.std.proofs.Math.Bool.{true, false, cond}
-use mathlib.Core.List.{List, [], ◌∷◌, ◌++◌, reverse, reverse-cons}
+use mathlib.Core.List.{List, [], ◌∷◌}
 use Prim.Native.Nat.{ℕ, zero, suc, ◌+◌, ◌-◌, ◌≤◌, ◌<◌}
 use native.Mathlib.Omega.{arith}
 use Rattle.std.proofs.Math.ListN.{get_or}
 use Rattle.base_definitions.specs.Lists.{only}
-use Rattle.base_definitions.proofs.OnlyLaws.{only_yes, only_no}
 use Rattle.store_block.specs.Entry.{Entry, no_entry}
-use Rattle.operation_visible.specs.declared.Run.{Run}
 use Rattle.operation_visible.specs.Runs.{onward, entries_from, run, skipped_from}
 
 pub onward-less : (b : Bool) (i : ℕ) → onward b i ≤ i + 1

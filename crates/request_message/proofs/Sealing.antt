@@ -10,7 +10,6 @@ use lib.IntN.{ℤ}
 use Rattle.base_integers.specs.Signed.{word_of}
 use Rattle.fields_schema.specs.Tree.{then_o, guard, is_some, listed, Tree, int_at, raw_at, sub_at, tree_in}
 use Rattle.fields_schema.specs.declared.Kind.TheVariants as k
-use Rattle.fields_lookup.specs.Views as views
 use Rattle.fields_lookup.specs.Views.{Reads, tree_of, bytes_at, num_view, part_view, Lies, Merges}
 use Rattle.fields_later.specs.LaterLaws.{signed-later, part-later, later-is}
 use Rattle.fields_lookup.proofs.LevelLaws.{tree_is}

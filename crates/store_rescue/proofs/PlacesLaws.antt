@@ -1,5 +1,5 @@
 -- The report by old place: what each byte says of its block and of the blocks before it.
-use Rattle.std.specs.Prelude.{◌≡◌, refl, ◌⊎◌, true, false, cond, take, drop}
+use Rattle.std.specs.Prelude.{◌≡◌, refl, true, false, cond, take, drop}
 use Rattle.std.proofs.Math.Path.{sym, ap, ap₂}
 use Rattle.std.proofs.Common.{◌∙◌, subst, not-suc-le-zero, drop-drop}
 use Rattle.std.proofs.Math.Logic.{⊎_elim}

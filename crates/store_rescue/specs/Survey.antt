@@ -1,5 +1,5 @@
 -- The blocks looked at one after the other, and then put in order.
-use Rattle.std.specs.Prelude.{◌≡◌, List, ◌++◌, ℕ, ◌+◌, ◌-◌, ◌*◌, length, take, drop}
+use Rattle.std.specs.Prelude.{◌≡◌, List, ◌++◌, ℕ, ◌-◌, ◌*◌, length, take, drop}
 use Rattle.store_layout.specs.Store.{blocks_in}
 use Rattle.store_order_table.specs.Table.{entries_at}
 use Rattle.store_rescue.specs.Rescue.{blocks_from, kept_from, report_from, kept_of, report_of}

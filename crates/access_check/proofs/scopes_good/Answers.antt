@@ -1,6 +1,5 @@
 use mathlib.Core.Path.{◌∙◌, sym, refl}
 use native.Mathlib.Omega.{arith}
-use Rattle.access_record.specs.Table.{scope_good}
 use Rattle.access_record.proofs.TableLaws.{stops, goes, scopes-test, scopes-end}
 use Rattle.access_check.proofs.scopes_good.Goals as goal
 

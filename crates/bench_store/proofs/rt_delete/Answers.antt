@@ -1,6 +1,5 @@
 use mathlib.Core.Path.{◌≡◌, ◌∙◌, sym}
 use mathlib.Core.Bool.{true}
-use borrow.Author.Tests.{not-true, not-false}
 use Rattle.store_layout.specs.Store.{store_good}
 use Rattle.store_layout.specs.declared.DeleteAnswer.TheVariants.{Deleted, Missing}
 use Rattle.bench_store.specs.CallsLaws.{good-store, not-deleted, delete-as}

@@ -1,6 +1,5 @@
 use mathlib.Core.Path.{◌≡◌, ◌∙◌, sym}
 use mathlib.Core.Bool.{true}
-use borrow.Author.Tests.{not-true, not-false}
 use Rattle.store_block.specs.Entry.{entry}
 use Rattle.store_layout.specs.Store.{store_good}
 use Rattle.store_layout.specs.declared.PutAnswer.TheVariants.{Stored, Full, Unfit}

@@ -31,25 +31,25 @@ returns-then-out-lt4096 c =
 pub returns-then-not-check : goal.returns-then-not-check
 returns-then-not-check c =
     let s = lent c.args.store.now c.args.device.now c.args.readings.now (connection_of c.args.connection) in
-    (told-store-bad s c.args.out.now c.args.input.now (store-bad box s (length c.args.out.now) c.args.input.now (le-ltb _ _ c.if-out-lt4096.false) (sym c.check.ensures ∙ not-true _ c.if-not-check.true)), below c.args.connection.number c.well_formed.1.1.1.0.1.1.0.1)
+    (told-store-bad s c.args.out.now c.args.input.now (store-bad box s (length c.args.out.now) c.args.input.now (le-ltb _ _ c.if-out-lt4096.false) (sym c.check.ensures ∙ c.if-not-check.true)), below c.args.connection.number c.well_formed.1.1.1.0.1.1.0.1)
 
 pub returns-then-not-record_good : goal.returns-then-not-record_good
 returns-then-not-record_good c =
     let s = lent c.args.store.now c.args.device.now c.args.readings.now (connection_of c.args.connection) in
-    (told-device-bad s c.args.out.now c.args.input.now (device-bad box s (length c.args.out.now) c.args.input.now (le-ltb _ _ c.if-out-lt4096.false) (sym c.check.ensures ∙ not-false _ c.if-not-check.false) (sym c.record_good.ensures ∙ not-true _ c.if-not-record_good.true)), below c.args.connection.number c.well_formed.1.1.1.0.1.1.0.1)
+    (told-device-bad s c.args.out.now c.args.input.now (device-bad box s (length c.args.out.now) c.args.input.now (le-ltb _ _ c.if-out-lt4096.false) (sym c.check.ensures ∙ c.if-not-check.false) (sym c.record_good.ensures ∙ c.if-not-record_good.true)), below c.args.connection.number c.well_formed.1.1.1.0.1.1.0.1)
 
 pub returns-then-closed : goal.returns-then-closed
 returns-then-closed c =
     let s = lent c.args.store.now c.args.device.now c.args.readings.now (connection_of c.args.connection) in
-    (told-closed s c.args.out.now c.args.input.now (closed-before box s (length c.args.out.now) c.args.input.now (le-ltb _ _ c.if-out-lt4096.false) (sym c.check.ensures ∙ not-false _ c.if-not-check.false) (sym c.record_good.ensures ∙ not-false _ c.if-not-record_good.false) c.if-closed.true), below c.args.connection.number c.well_formed.1.1.1.0.1.1.0.1)
+    (told-closed s c.args.out.now c.args.input.now (closed-before box s (length c.args.out.now) c.args.input.now (le-ltb _ _ c.if-out-lt4096.false) (sym c.check.ensures ∙ c.if-not-check.false) (sym c.record_good.ensures ∙ c.if-not-record_good.false) c.if-closed.true), below c.args.connection.number c.well_formed.1.1.1.0.1.1.0.1)
 
 pub answer_frame-requires : goal.answer_frame-requires
-answer_frame-requires c = (c.if-out-lt4096.false, (store-decides c.args.store.now).yes (sym c.check.ensures ∙ not-false _ c.if-not-check.false), sym c.record_good.ensures ∙ not-false _ c.if-not-record_good.false)
+answer_frame-requires c = (c.if-out-lt4096.false, (store-decides c.args.store.now).yes (sym c.check.ensures ∙ c.if-not-check.false), sym c.record_good.ensures ∙ c.if-not-record_good.false)
 
 pub returns : goal.returns
 returns c =
     let s = lent c.args.store.now c.args.device.now c.args.readings.now (connection_of c.args.connection) in (
       c.answer_frame.ensures
-          ∙ ap (afterwards s c.args.out.now) (sym (not-refused box s (length c.args.out.now) c.args.input.now (le-ltb _ _ c.if-out-lt4096.false) (sym c.check.ensures ∙ not-false _ c.if-not-check.false) (sym c.record_good.ensures ∙ not-false _ c.if-not-record_good.false) c.if-closed.false)),
+          ∙ ap (afterwards s c.args.out.now) (sym (not-refused box s (length c.args.out.now) c.args.input.now (le-ltb _ _ c.if-out-lt4096.false) (sym c.check.ensures ∙ c.if-not-check.false) (sym c.record_good.ensures ∙ c.if-not-record_good.false) c.if-closed.false)),
       below c.args.connection.number c.well_formed.1.1.1.0.1.1.0.1,
     )

@@ -22,12 +22,12 @@ inside input e i = subst (λ (f : Framed). Inside input f) e i
 pub returns-then-not-good : goal.returns-then-not-good
 returns-then-not-good c =
     let s = lent c.args.store.now c.args.device.now c.args.readings.now (connection_of c.args.connection) in
-    closing-bad s c.args.out.now c.args.input.now (sym c.good.ensures ∙ not-true _ c.if-not-good.true) (framed c.args.input.now c.in-Closes.is c.frame_at.ensures.same)
+    closing-bad s c.args.out.now c.args.input.now (sym c.good.ensures ∙ c.if-not-good.true) (framed c.args.input.now c.in-Closes.is c.frame_at.ensures.same)
 
 pub returns-then-not-good-2 : goal.returns-then-not-good-2
 returns-then-not-good-2 c =
     let s = lent c.args.store.now c.args.device.now c.args.readings.now (connection_of c.args.connection) in
-    whole-bad s c.args.out.now c.args.input.now (sym c.good-in-Whole.ensures ∙ not-true _ c.if-not-good-2.true) (framed c.args.input.now c.in-Whole.is c.frame_at.ensures.same)
+    whole-bad s c.args.out.now c.args.input.now (sym c.good-in-Whole.ensures ∙ c.if-not-good-2.true) (framed c.args.input.now c.in-Whole.is c.frame_at.ensures.same)
 
 pub overflow_add-m : goal.overflow_add-m
 overflow_add-m c =
@@ -55,7 +55,7 @@ slice_bounds-answer_message-end-in-Whole c =
 pub answer_message-r-requires : goal.answer_message-r-requires
 answer_message-r-requires c =
     let i = (inside c.args.input.now c.in-Whole.is c.frame_at.ensures.inside).1 in
-    (c.requires.0, c.requires.1, c.requires.2, simp (length-take, length-drop) (omega arith), sym c.good-in-Whole.ensures ∙ not-false _ c.if-not-good-2.false)
+    (c.requires.0, c.requires.1, c.requires.2, simp (length-take, length-drop) (omega arith), sym c.good-in-Whole.ensures ∙ c.if-not-good-2.false)
 
 pub returns-in-More : goal.returns-in-More
 returns-in-More c =
@@ -65,10 +65,10 @@ returns-in-More c =
 pub returns-else-not-good : goal.returns-else-not-good
 returns-else-not-good c =
     let s = lent c.args.store.now c.args.device.now c.args.readings.now (connection_of c.args.connection) in
-    closing-frame s c.args.out.now c.args.input.now (sym c.good.ensures ∙ not-false _ c.if-not-good.false) (framed c.args.input.now c.in-Closes.is c.frame_at.ensures.same)
+    closing-frame s c.args.out.now c.args.input.now (sym c.good.ensures ∙ c.if-not-good.false) (framed c.args.input.now c.in-Closes.is c.frame_at.ensures.same)
     (c.close-r.ensures c.args.store.now c.args.device.now c.args.readings.now)
 
 pub returns-else-not-good-2 : goal.returns-else-not-good-2
 returns-else-not-good-2 c =
     let s = lent c.args.store.now c.args.device.now c.args.readings.now (connection_of c.args.connection) in
-    whole-cut s c.args.out.now c.args.input.now (sym c.good-in-Whole.ensures ∙ not-false _ c.if-not-good-2.false) c.in-Whole.message c.in-Whole.value (framed c.args.input.now c.in-Whole.is c.frame_at.ensures.same) (inside c.args.input.now c.in-Whole.is c.frame_at.ensures.inside).0 c.answer_message-r.ensures
+    whole-cut s c.args.out.now c.args.input.now (sym c.good-in-Whole.ensures ∙ c.if-not-good-2.false) c.in-Whole.message c.in-Whole.value (framed c.args.input.now c.in-Whole.is c.frame_at.ensures.same) (inside c.args.input.now c.in-Whole.is c.frame_at.ensures.inside).0 c.answer_message-r.ensures

@@ -1,8 +1,5 @@
 use native.Mathlib.Omega.{arith}
-use mathlib.Core.Path.{◌≡◌, ◌∙◌, sym}
-use mathlib.Core.Bool.{true}
-use borrow.Author.Tests.{not-true, not-false}
-use Rattle.store_layout.specs.Store.{size_good}
+use mathlib.Core.Path.{◌∙◌, sym}
 use Rattle.protocol.proofs.FormatLaws.{store-bad, key-empty, key-long, made}
 use Rattle.device_format.proofs.format.Goals as goal
 

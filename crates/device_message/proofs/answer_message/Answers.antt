@@ -17,7 +17,7 @@ returns-then-not-ok c =
     let a = c.args in
     let s = lent a.store.now a.device.now a.readings.now (connection_of a.connection) in
     let m = c.read_message-m in
-    sent-as (unread s a.value.now a.message.now (unsealed a.message.now m.result m.ensures.0 (not-true _ c.if-not-ok.true)))
+    sent-as (unread s a.value.now a.message.now (unsealed a.message.now m.result m.ensures.0 c.if-not-ok.true))
     (c.close.ensures a.store.now a.device.now a.readings.now)
 
 pub verify_sender-requires : goal.verify_sender-requires
@@ -30,7 +30,7 @@ returns-in-At c =
     let a = c.args in
     let s = lent a.store.now a.device.now a.readings.now (connection_of a.connection) in
     let m = c.read_message-m in
-    sent-as (known s a.value.now a.message.now (sealed a.message.now m.result m.ensures.0 (not-false _ c.if-not-ok.false) (word_kept m.result.identity c.type_inv.m.1.0.1)) (sym c.find_identity.ensures ∙ c.in-At.is))
+    sent-as (known s a.value.now a.message.now (sealed a.message.now m.result m.ensures.0 c.if-not-ok.false (word_kept m.result.identity c.type_inv.m.1.0.1)) (sym c.find_identity.ensures ∙ c.in-At.is))
     c.verify_sender.ensures
 
 pub returns-in-Nobody : goal.returns-in-Nobody
@@ -38,5 +38,5 @@ returns-in-Nobody c =
     let a = c.args in
     let s = lent a.store.now a.device.now a.readings.now (connection_of a.connection) in
     let m = c.read_message-m in
-    sent-as (unknown s a.value.now a.message.now (sealed a.message.now m.result m.ensures.0 (not-false _ c.if-not-ok.false) (word_kept m.result.identity c.type_inv.m.1.0.1)) (sym c.find_identity.ensures ∙ c.in-Nobody.is))
+    sent-as (unknown s a.value.now a.message.now (sealed a.message.now m.result m.ensures.0 c.if-not-ok.false (word_kept m.result.identity c.type_inv.m.1.0.1)) (sym c.find_identity.ensures ∙ c.in-Nobody.is))
     (c.close-in-Nobody.ensures a.store.now a.device.now a.readings.now)

@@ -31,7 +31,7 @@ returns-then-not-verify c =
     let a = c.args in
     let s = lent a.store.now a.device.now a.readings.now (connection_of a.sender.connection) in
     let k = (acl_of (table_of a.device.now) a.sender.acl).key in
-    sent-as (wrong-hmac s a.value.now (word_of a.sender.identity) a.digest.now a.command.now k (told a.device.now a.sender.acl a.command.now a.digest.now (found-placed c.args.device.now (word_of c.args.sender.identity) c.args.sender.acl c.requires.2 c.requires.3) c.requires.4 c.key_of.ensures c.verify.ensures ∙ not-true _ c.if-not-verify.true))
+    sent-as (wrong-hmac s a.value.now (word_of a.sender.identity) a.digest.now a.command.now k (told a.device.now a.sender.acl a.command.now a.digest.now (found-placed c.args.device.now (word_of c.args.sender.identity) c.args.sender.acl c.requires.2 c.requires.3) c.requires.4 c.key_of.ensures c.verify.ensures ∙ c.if-not-verify.true))
     (c.close.ensures a.store.now a.device.now a.readings.now)
 
 pub copy_key-n-requires : goal.copy_key-n-requires
@@ -57,5 +57,5 @@ returns c =
     let a = c.args in
     let s = lent a.store.now a.device.now a.readings.now (connection_of a.sender.connection) in
     let k = (acl_of (table_of a.device.now) a.sender.acl).key in
-    sent-as (right-hmac s a.value.now (word_of a.sender.identity) a.digest.now a.command.now k (told a.device.now a.sender.acl a.command.now a.digest.now (found-placed c.args.device.now (word_of c.args.sender.identity) c.args.sender.acl c.requires.2 c.requires.3) c.requires.4 c.key_of.ensures c.verify.ensures ∙ not-false _ c.if-not-verify.false))
+    sent-as (right-hmac s a.value.now (word_of a.sender.identity) a.digest.now a.command.now k (told a.device.now a.sender.acl a.command.now a.digest.now (found-placed c.args.device.now (word_of c.args.sender.identity) c.args.sender.acl c.requires.2 c.requires.3) c.requires.4 c.key_of.ensures c.verify.ensures ∙ c.if-not-verify.false))
     (sent-by s a.value.now (word_of a.sender.identity) a.command.now c.copy_key-n.ensures.0 c.answer_command.ensures)

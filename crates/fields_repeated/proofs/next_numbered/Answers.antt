@@ -1,4 +1,3 @@
-use Prim.Native.Nat.{◌-◌}
 use native.Mathlib.Omega.{arith}
 use Rattle.fields_repeated.proofs.Seeking.{seek-start, seek-end, seek-none, seek-on, seek_found}
 use Rattle.fields_repeated.proofs.next_numbered.Goals as goal

@@ -1,4 +1,3 @@
-use Prim.Native.Nat.{◌-◌}
 use native.Mathlib.Omega.{arith}
 use Rattle.fields_write_bytes.proofs.PushedLaws.{copying-none, copying-next, copying-all}
 use Rattle.fields_write_bytes.proofs.push_bytes.Goals as goal

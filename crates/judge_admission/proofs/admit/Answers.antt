@@ -1,3 +1,5 @@
+use mathlib.Core.Path.{ap}
+use mathlib.Core.Bool.{not}
 use Rattle.access_record.specs.Table.{acl_of}
 use Rattle.access_record.specs.Record.{table_of}
 use Rattle.request_command.specs.Views.{body_view}
@@ -23,8 +25,8 @@ permitted-requires c = (c.requires.0, c.requires.2)
 
 pub returns-then-not-permitted : goal.returns-then-not-permitted
 returns-then-not-permitted c =
-    λ v e. forbidden (acl_of (table_of c.args.device.now) c.args.acl) c.args.protected c.args.choice (body_view c.args.command.now c.args.body) v (c.body_fault-fault.ensures v e) c.if-fault-ne0.false (c.permitted.ensures (body_view c.args.command.now c.args.body) (key-cut c.args.command.now c.args.body c.requires.1)) c.if-not-permitted.true
+    λ v e. forbidden (acl_of (table_of c.args.device.now) c.args.acl) c.args.protected c.args.choice (body_view c.args.command.now c.args.body) v (c.body_fault-fault.ensures v e) c.if-fault-ne0.false (c.permitted.ensures (body_view c.args.command.now c.args.body) (key-cut c.args.command.now c.args.body c.requires.1)) (ap not c.if-not-permitted.true)
 
 pub returns : goal.returns
 returns c =
-    λ v e. allowed (acl_of (table_of c.args.device.now) c.args.acl) c.args.protected c.args.choice (body_view c.args.command.now c.args.body) v (c.body_fault-fault.ensures v e) c.if-fault-ne0.false (c.permitted.ensures (body_view c.args.command.now c.args.body) (key-cut c.args.command.now c.args.body c.requires.1)) c.if-not-permitted.false
+    λ v e. allowed (acl_of (table_of c.args.device.now) c.args.acl) c.args.protected c.args.choice (body_view c.args.command.now c.args.body) v (c.body_fault-fault.ensures v e) c.if-fault-ne0.false (c.permitted.ensures (body_view c.args.command.now c.args.body) (key-cut c.args.command.now c.args.body c.requires.1)) (ap not c.if-not-permitted.false)

@@ -5,10 +5,10 @@ use Rattle.judge_body.proofs.Parts.{absent, there, lengths}
 use Rattle.judge_body.proofs.key_value_right.Goals as goal
 
 pub returns-then-not-keyed : goal.returns-then-not-keyed
-returns-then-not-keyed c s l = let a = c.args in absent key_value_good a.keyed (key_value_view s a.k) (not-true a.keyed c.if-not-keyed.true)
+returns-then-not-keyed c s l = let a = c.args in absent key_value_good a.keyed (key_value_view s a.k) c.if-not-keyed.true
 
 pub returns : goal.returns
 returns c s l =
     let a = c.args in
-    there key_value_good a.keyed (key_value_view s a.k) (not-false a.keyed c.if-not-keyed.false)
+    there key_value_good a.keyed (key_value_view s a.k) c.if-not-keyed.false
     (c.key_value_good.ensures (key_value_view s a.k) (lengths s a.k l))

@@ -1,15 +1,4 @@
-use types.Run.{OneOf, miss}
-use denote.Enum.Declared.{tag_of}
-use Prim.Native.Nat.{ℕ}
-use mathlib.Core.Path.{subst}
-use mathlib.Core.List.{List, ◌∷◌}
-use Rattle.protocol.specs.contracts.Operation.{the_type}
-use Rattle.protocol.specs.declared.Operation.{Operation}
 use Rattle.judge_body.proofs.security_code.Goals as goal
 
--- the tags of all operations but the last
-abbrev others : List ℕ
-others = 0 ∷ 1 ∷ 2 ∷ 3 ∷ 4 ∷ 5 ∷ 6 ∷ 7 ∷ 8 ∷ 9 ∷ 10 ∷ []
-
 pub returns-in_default : goal.returns-in_default
-returns-in_default c e = absurd (miss others 11 tt (subst (λ (o : Operation). OneOf others (tag_of the_type o)) e c.in-Security.keys2))
+returns-in_default c e = absurd (c.in_default.not-Security e)

@@ -8,29 +8,29 @@ use Rattle.judge_body.proofs.security_fault.Goals as goal
 pub returns-then-not-has : goal.returns-then-not-has
 returns-then-not-has c =
     let a = c.args in
-    no-security a.security.has (acls_in a.command.now a.security) (not-true a.security.has c.if-not-has.true)
+    no-security a.security.has (acls_in a.command.now a.security) c.if-not-has.true
 
 pub returns-then-not-security_table : goal.returns-then-not-security_table
 returns-then-not-security_table c =
     let a = c.args in
     let t = c.security_table in
-    rules-broken a.security.has (acls_in a.command.now a.security) (not-false a.security.has c.if-not-has.false)
-    (sym t.ensures.answer ∙ not-true t.result c.if-not-security_table.true)
+    rules-broken a.security.has (acls_in a.command.now a.security) c.if-not-has.false
+    (sym t.ensures.answer ∙ c.if-not-security_table.true)
 
 pub returns-then-not-algorithms_good : goal.returns-then-not-algorithms_good
 returns-then-not-algorithms_good c =
     let a = c.args in
     let t = c.security_table in
     let g = c.algorithms_good in
-    other-algorithm a.security.has (acls_in a.command.now a.security) (not-false a.security.has c.if-not-has.false)
-    (sym t.ensures.answer ∙ not-false t.result c.if-not-security_table.false)
-    (sym g.ensures ∙ not-true g.result c.if-not-algorithms_good.true)
+    other-algorithm a.security.has (acls_in a.command.now a.security) c.if-not-has.false
+    (sym t.ensures.answer ∙ c.if-not-security_table.false)
+    (sym g.ensures ∙ c.if-not-algorithms_good.true)
 
 pub returns : goal.returns
 returns c =
     let a = c.args in
     let t = c.security_table in
     let g = c.algorithms_good in
-    security-right a.security.has (acls_in a.command.now a.security) (not-false a.security.has c.if-not-has.false)
-    (sym t.ensures.answer ∙ not-false t.result c.if-not-security_table.false)
-    (sym g.ensures ∙ not-false g.result c.if-not-algorithms_good.false)
+    security-right a.security.has (acls_in a.command.now a.security) c.if-not-has.false
+    (sym t.ensures.answer ∙ c.if-not-security_table.false)
+    (sym g.ensures ∙ c.if-not-algorithms_good.false)

@@ -4,8 +4,8 @@ use Rattle.operation_get.specs.ShownLaws.{found_at, missing_at}
 use Rattle.operation_get.proofs.get.Goals as goal
 
 pub returns-in-At : goal.returns-in-At
-returns-in-At c = let i = c.i-1 in
-    found_at c.args.store.now c.requires c.args.key.now i.given.0.0 c.entry_at.result c.entry_at.ensures (subst (λ o. Sought c.args.store.now c.args.key.now o) i.given.1 c.find.ensures)
+returns-in-At c =
+    found_at c.args.store.now c.requires c.args.key.now c.in-At.i c.entry_at.result c.entry_at.ensures (subst (λ o. Sought c.args.store.now c.args.key.now o) c.in-At.is c.find.ensures)
 
 pub returns-in-Gap : goal.returns-in-Gap
 returns-in-Gap c = missing_at c.args.store.now c.requires c.args.key.now c.in-Gap.field-0 (subst (λ o. Sought c.args.store.now c.args.key.now o) c.in-Gap.is c.find.ensures)

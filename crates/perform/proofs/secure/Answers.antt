@@ -11,5 +11,5 @@ returns c =
     let v = c.cluster_version-version in
     λ (t : State) (q : t.device ≡ c.args.device.now).
     sent-as c.args.reply_to c.args.signing_key.now
-    (secured (acls_in c.args.command.now c.args.security) c.security_table.ensures c.requires.3 (word_kept v.result v.type-inv ∙ v.ensures) t q)
+    (secured (acls_in c.args.command.now c.args.security) c.security_table.ensures c.requires.3 (word_kept v.result v.type_inv ∙ v.ensures) t q)
     (c.status.ensures (with_device t _))

@@ -5,16 +5,16 @@ use Rattle.perform_put_delete.proofs.Results.{has-changed}
 use Rattle.perform_put_delete.proofs.put.Goals as goal
 
 pub overflow_add-new : goal.overflow_add-new
-overflow_add-new c = let i = c.requires.3.version.inside in let g = c.good in omega arith
+overflow_add-new c = let i = c.requires.3.version.inside in let g = c.well_formed in omega arith
 
 pub overflow_add-old : goal.overflow_add-old
-overflow_add-old c = let i = c.requires.3.expected.inside in let g = c.good in omega arith
+overflow_add-old c = let i = c.requires.3.expected.inside in let g = c.well_formed in omega arith
 
 pub slice_bounds-put-end-3 : goal.slice_bounds-put-end-3
 slice_bounds-put-end-3 c = let i = c.requires.3.expected.inside in omega arith
 
 pub overflow_add-tag : goal.overflow_add-tag
-overflow_add-tag c = let i = c.requires.3.tag.inside in let g = c.good in omega arith
+overflow_add-tag c = let i = c.requires.3.tag.inside in let g = c.well_formed in omega arith
 
 pub slice_bounds-put-end-4 : goal.slice_bounds-put-end-4
 slice_bounds-put-end-4 c = let i = c.requires.3.tag.inside in omega arith

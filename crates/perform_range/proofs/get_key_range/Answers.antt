@@ -31,7 +31,7 @@ returns c =
     let f = e.before in
     let z = f.before.before.before.before.before.before.before.before.before in
     λ (t : State) (q : t.store ≡ z.args.store.now).
-    sends-as z.args.reply-to z.args.signing-key.now
+    sends-as z.args.reply_to z.args.signing_key.now
     (range-cut (seen_by z.args.device.now z.args.viewer RANGE) z.requires.3 f.flag_of.ensures e.flag_of-2.ensures n.number_or.ensures v.flag_of-3.ensures
     c.range_places-count.ensures.0 t q)
     c.put_range.ensures

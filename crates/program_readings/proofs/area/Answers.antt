@@ -5,17 +5,17 @@ use Rattle.log_readings.specs.LentLaws.{temperatures-placed, utilizations-placed
 use Rattle.program_readings.proofs.area.Goals as goal
 
 pub temperatures-requires : goal.temperatures-requires
-temperatures-requires c = sym c.good2.ensures ∙ not-false _ c.if-not-good.false
+temperatures-requires g c = sym c.good.ensures ∙ c.if-not-good.false
 
 pub places-requires : goal.places-requires
-places-requires c =
+places-requires g c =
     let l = c.args.s.now in
-    subst (Places l 0) (sym c.temperatures.ensures.0) (temperatures-placed l (sym c.good2.ensures ∙ not-false _ c.if-not-good.false))
+    subst (Places l 0) (sym c.temperatures.ensures.0) (temperatures-placed l (sym c.good.ensures ∙ c.if-not-good.false))
 
 pub utilizations-requires : goal.utilizations-requires
-utilizations-requires c = sym c.good2.ensures ∙ not-false _ c.if-not-good.false
+utilizations-requires g c = sym c.good.ensures ∙ c.if-not-good.false
 
 pub places-requires-2 : goal.places-requires-2
-places-requires-2 c =
+places-requires-2 g c =
     let l = c.args.s.now in
-    subst (Places l 4) (sym c.utilizations.ensures.0) (utilizations-placed l (sym c.good2.ensures ∙ not-false _ c.if-not-good.false))
+    subst (Places l 4) (sym c.utilizations.ensures.0) (utilizations-placed l (sym c.good.ensures ∙ c.if-not-good.false))

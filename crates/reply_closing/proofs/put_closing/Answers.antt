@@ -13,7 +13,7 @@ pub returns : goal.returns
 returns c =
     let a = c.args in
     let prefix = c.push_prefix-e in
-    copied prefix.new.0 prefix.result 128 (omega arith)
+    copied prefix.new.out prefix.result 128 (omega arith)
     (closing-law (word_of a.connection) a.code refl (omega arith) prefix.ensures c.push_int-d.ensures.0
     c.push_head-c.ensures.0
     (again (ap (λ (n : ℕ). len_field 1 (encode (int 3 n done))) (word_kept a.connection c.ranges.connection.sfits)) c.push_connection-b.ensures.0)

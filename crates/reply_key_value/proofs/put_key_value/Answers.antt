@@ -20,7 +20,7 @@ returns c =
     let command = command-law (word_of to.connection) (ack_of to) to.kind body 1 c.push_header-c.ensures.0
     c.push_key_value-b.ensures.0
     c.push_status-a.ensures.0 in
-    copied end.new.0 end.result 1024 (omega arith)
+    copied end.new.s end.result 1024 (omega arith)
     (signed-whole (command_to to body 1) _ (word_kept to.identity told.sfits) end.ensures.0 command
     c.push_bytes-end.ensures)
     c.copy.ensures

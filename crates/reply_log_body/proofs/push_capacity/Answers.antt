@@ -13,7 +13,11 @@ pub portion_full-full-requires : goal.portion_full-full-requires
 portion_full-full-requires c =
     let l = c.args.store.now in
     let g = c.requires.0 in
-    (omega (arith, room l, c.count-used.ensures g), (omega (arith, g.some), omega (arith, g.most)))
+    record {
+      fact_1 = omega (arith, room l, c.count-used.ensures g);
+      fact_2 = omega (arith, g.some);
+      fact_3 = omega (arith, g.most);
+    }
 
 pub returns : goal.returns
 returns c =

@@ -6,5 +6,4 @@ pub returns : goal.returns
 returns c = (
   limits-law c.push_head.ensures.0 c.push_sizes-d.ensures.0 c.push_int-c.ensures.0 c.push_int-b.ensures.0 c.push_int-a.ensures.0,
   omega arith,
-
 )

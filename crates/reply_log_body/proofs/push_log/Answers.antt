@@ -45,15 +45,15 @@ push_asked_samples-d-requires c =
 pub push_head-e-requires : goal.push_head-e-requires
 push_head-e-requires c =
     let e =
-        utilized-room c.requires.2 c.push_asked_limits-a.ensures.1 c.push_asked_capacity-b.ensures.1 c.push_asked_samples-c.ensures.1
-        c.push_asked_samples-d.ensures.1 in
+    utilized-room c.requires.2 c.push_asked_limits-a.ensures.1 c.push_asked_capacity-b.ensures.1 c.push_asked_samples-c.ensures.1
+    c.push_asked_samples-d.ensures.1 in
     (omega arith, omega (arith, e), inside c.push_asked_samples-d.ensures.0)
 
 pub push_head-requires : goal.push_head-requires
 push_head-requires c =
     let e =
-        utilized-room c.requires.2 c.push_asked_limits-a.ensures.1 c.push_asked_capacity-b.ensures.1 c.push_asked_samples-c.ensures.1
-        c.push_asked_samples-d.ensures.1 in
+    utilized-room c.requires.2 c.push_asked_limits-a.ensures.1 c.push_asked_capacity-b.ensures.1 c.push_asked_samples-c.ensures.1
+    c.push_asked_samples-d.ensures.1 in
     (omega arith, left-for 15 15 e c.push_head-e.ensures.1, inside c.push_head-e.ensures.0)
 
 pub returns : goal.returns

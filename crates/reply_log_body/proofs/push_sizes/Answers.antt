@@ -6,5 +6,4 @@ pub returns : goal.returns
 returns c = (
   sizes-law c.push_int.ensures.0 c.push_int-c.ensures.0 c.push_int-b.ensures.0 c.push_int-a.ensures.0,
   omega arith,
-
 )

@@ -19,6 +19,6 @@ returns c =
     let end = c.finish-c in
     let command = bare-law (word_of to.connection) (ack_of to) to.kind a.code c.push_header-b.ensures.0
     c.push_status-a.ensures.0 in
-    copied end.new.0 end.result 256 (omega arith)
+    copied end.new.s end.result 256 (omega arith)
     (signed-whole (command_to to bare a.code) _ (word_kept to.identity told.sfits) end.ensures.0 command (no_value 256 _ refl))
     c.copy.ensures

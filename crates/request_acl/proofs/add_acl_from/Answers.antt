@@ -1,4 +1,4 @@
-use native.Mathlib.Omega.{arith}
+use Rattle.std.proofs.Common.{arith, rules}
 use mathlib.Core.Path.{refl}
 use Rattle.base_integers.specs.SignedLaws.{word_kept}
 use Rattle.fields_schema.specs.declared.Kind.TheVariants as kind
@@ -14,11 +14,10 @@ use Rattle.request_acl.proofs.add_acl_from.Goals.{After-open_at-t, After-part_of
 level : (c : After-open_at-t) → Level kind.Acl (bytes_at c.args.s.now c.args.p) c.open_at-t.result
 level c = level-at c.open_at-t.result c.requires.1 c.open_at-t.ensures
 
-facts : (c : After-part_of-key) → let z = c.before.before.before.before in AclFacts z.args.s.now z.args.p c.signed_of-identity.result c.part_of-key.result
+facts : (c : After-part_of-key) → AclFacts c.args.s.now c.args.p c.signed_of-identity.result c.part_of-key.result
 facts c =
     let t = c.open_at-t in
-    let z = c.before.before.before.before in
-    acl-facts z.args.s.now z.args.p t.result z.requires.1 t.ensures c.signed_of-identity.result c.signed_of-identity.ensures c.part_of-key.result c.part_of-key.ensures
+    acl-facts c.args.s.now c.args.p t.result c.requires.1 t.ensures c.signed_of-identity.result c.signed_of-identity.ensures c.part_of-key.result c.part_of-key.ensures
 
 pub open_at-t-requires : goal.open_at-t-requires
 open_at-t-requires c = c.requires.1.inside
@@ -45,19 +44,12 @@ overflow_add-end c = let i = (facts (goal.at.overflow_add-end c).After-part_of-k
 
 pub add_acl-requires : goal.add_acl-requires
 add_acl-requires c =
-    let e = (goal.at.add_acl-requires c).Else-key-gt64 in
-    let f = e.before.before.before.before.before in
-    (c.requires.0, slice-short c.args.s.now f.part_of-key.result (facts f).place e.if-key-gt64.false)
+    (c.requires.0, slice-short c.args.s.now c.part_of-key.result (facts (goal.at.add_acl-requires c).After-part_of-key).place c.if-key-gt64.false)
 
 pub add_scopes-requires : goal.add_scopes-requires
 add_scopes-requires c = c.requires
 
 pub returns : goal.returns
 returns c =
-    let d = (goal.at.returns c).After-add_acl in
-    let told = d.struct_told-1 in
-    let e = d.before.before.before.before.before in
-    let f = e.before.before.before.before.before in
-    let s = c.args.s.now in
-    acl-made (facts f) (not-false _ e.if-not-has.false) e.if-key-lt1.false e.if-key-gt64.false
-    c.args.device.now _ _ c.args.place _ _ c.add_scopes.result (word_kept f.signed_of-identity.result.value told.given.1.0.1) (slice_at s f.part_of-key.result) d.add_acl.ensures c.add_scopes.ensures
+    acl-made (facts (goal.at.returns c).After-part_of-key) c.if-not-has.false c.if-key-lt1.false c.if-key-gt64.false
+    c.args.device.now _ _ c.args.place _ _ c.add_scopes.result (word_kept c.signed_of-identity.result.value (search rules)) (slice_at c.args.s.now c.part_of-key.result) c.add_acl.ensures c.add_scopes.ensures

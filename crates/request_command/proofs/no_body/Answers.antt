@@ -16,5 +16,4 @@ returns c s = record {
   lies = lies-no s;
   reads = (no_sub k.Security s).reads;
   security = λ n. no_sub k.Security s;
-
 }

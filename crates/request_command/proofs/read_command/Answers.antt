@@ -27,11 +27,10 @@ header_in-header-requires c =
 
 bodies : (c : After-header_in-header) → let a = c.args in Only k.Body a.s.now c.part_of-b.result c.sent_twice-twice.result (sub_at 2 (tree_of k.Command (bytes_at a.s.now a.p)))
 bodies c =
-    let b = c.before.before.before.before.before.before in
     let o = c.open_at-t in
     let x = c.part_of-b in
     let w = c.sent_twice-twice in
-    only_at k.Command b.args.s.now b.args.p o.result o.ensures (b.requires.0, b.requires.1) 2 k.Body refl (λ e. e) x.result x.ensures w.result w.ensures
+    only_at k.Command c.args.s.now c.args.p o.result o.ensures (c.requires.0, c.requires.1) 2 k.Body refl (λ e. e) x.result x.ensures w.result w.ensures
 
 pub body_in-body-requires : goal.body_in-body-requires
 body_in-body-requires c = (c.requires.0, c.requires.1, bodies (goal.at.body_in-body-requires c).After-header_in-header)

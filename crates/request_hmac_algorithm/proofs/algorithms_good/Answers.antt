@@ -1,5 +1,5 @@
 use mathlib.Core.Path.{◌∙◌, sym}
-use borrow.Author.Tests.{not-true, not-false, eq-eqb, ne_eqb}
+use borrow.Author.Tests.{eq-eqb, ne_eqb}
 use Rattle.fields_schema.specs.declared.Kind.TheVariants as kind
 use Rattle.protocol.specs.Command.{acl_of}
 use Rattle.request_scope.specs.RestsLaws.{rest-stands}

@@ -1,4 +1,3 @@
-use Rattle.fields_schema.specs.declared.Kind.TheVariants as kind
 use Rattle.request_hmac_algorithm.proofs.Algorithms.{Judging}
 use Rattle.request_hmac_algorithm.proofs.algorithms_good.Given as goal
 

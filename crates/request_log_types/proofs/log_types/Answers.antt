@@ -15,15 +15,12 @@ use Rattle.request_merged.specs.Types.{log_types}
 use Rattle.fields_repeated.specs.Joins.{Joins}
 use Rattle.fields_repeated.specs.JoinsLaws.{joins-start, joins-empty, joins-end, joins-reads, joins-on}
 use Rattle.request_log_types.specs.Types.{BodyTypes, LogTypes, TypesAre}
+use Rattle.request_log_types.proofs.log_types.Invariants.{bodies}
 use Rattle.request_log_types.proofs.log_types.Goals as goal
 
 none-asked : BodyTypes done 0
 unfolding mask_of
 none-asked = record { set = refl }
-
--- the bodies of a command
-abbrev bodies : List ℕ → Tree
-bodies s = tree_in (sub_at 2 (tree_of k.Command s))
 
 all-bodies : (s : List ℕ) (r : ℕ) → BodyTypes (bodies s) r → TypesAre (log_types s) r
 unfolding log_types

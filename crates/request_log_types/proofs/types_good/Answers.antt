@@ -7,17 +7,12 @@ returns-then-mask-eq0 c types h = no-types types (types-none types h c.if-mask-e
 
 pub returns-then-asks : goal.returns-then-asks
 returns-then-asks c types h =
-    let a = c.before in
-    some-types types (types-some types h a.if-mask-eq0.false) (sym c.if-asks.true ∙ a.asks.ensures types h) refl refl
+    some-types types (types-some types h c.if-mask-eq0.false) (sym c.if-asks.true ∙ c.asks.ensures types h) refl refl
 
 pub returns-then-asks-2 : goal.returns-then-asks-2
 returns-then-asks-2 c types h =
-    let b = c.before in
-    let a = b.before.before in
-    some-types types (types-some types h a.if-mask-eq0.false) (sym b.if-asks.false ∙ a.asks.ensures types h) (sym c.if-asks-2.true ∙ b.asks-2.ensures types h) refl
+    some-types types (types-some types h c.if-mask-eq0.false) (sym c.if-asks.false ∙ c.asks.ensures types h) (sym c.if-asks-2.true ∙ c.asks-2.ensures types h) refl
 
 pub returns : goal.returns
 returns c types h =
-    let b = c.before.before in
-    let a = b.before.before in
-    some-types types (types-some types h a.if-mask-eq0.false) (sym b.if-asks.false ∙ a.asks.ensures types h) (sym c.if-asks-2.false ∙ b.asks-2.ensures types h) (c.asks-3.ensures types h)
+    some-types types (types-some types h c.if-mask-eq0.false) (sym c.if-asks.false ∙ c.asks.ensures types h) (sym c.if-asks-2.false ∙ c.asks-2.ensures types h) (c.asks-3.ensures types h)

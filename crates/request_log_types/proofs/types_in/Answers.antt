@@ -1,8 +1,6 @@
 use native.Mathlib.Omega.{arith}
-use Prim.Native.Nat.{◌<◌}
 use Rattle.request_log_types.proofs.Walk.{walk_start, walk-empty, walk_end, walk-small, walk-on}
 use Rattle.request_log_types.proofs.types_in.Goals as goal
-use Rattle.request_log_types.proofs.types_in.Goals.{After-struct_known-in-loop-left-1}
 
 pub loop-left-init : goal.loop-left-init
 loop-left-init c = walk_start c.args.s.now c.args.p c.args.before c.requires.0 c.requires.1
@@ -16,17 +14,11 @@ returns-then-not-has c =
     let o = c.loop-left in
     walk_end o.invariant x.result x.ensures c.if-not-has.true
 
--- the type that was found
-small : (c : After-struct_known-in-loop-left-1) → c.next_num-x.result.num.value < 8
-small c =
-    let x = c.next_num-x in
-    walk-small c.loop-left.invariant x.result x.ensures c.if-not-has.false
-
 pub overflow_cast-x : goal.overflow_cast-x
-overflow_cast-x c = let h = small (goal.at.overflow_cast-x c).After-struct_known-in-loop-left-1 in omega arith
+overflow_cast-x c = let h = walk-small c.loop-left.invariant c.next_num-x.result c.next_num-x.ensures c.if-not-has.false in omega arith
 
 pub with_bit-mask-requires : goal.with_bit-mask-requires
-with_bit-mask-requires c = let h = small (goal.at.with_bit-mask-requires c).After-struct_known-in-loop-left-1 in omega arith
+with_bit-mask-requires c = let h = walk-small c.loop-left.invariant c.next_num-x.result c.next_num-x.ensures c.if-not-has.false in omega arith
 
 pub loop-left-smaller : goal.loop-left-smaller
 loop-left-smaller c =

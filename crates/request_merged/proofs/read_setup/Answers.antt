@@ -14,5 +14,5 @@ returns c =
     let p = c.args.p in
     let o = c.open_at-t in
     let t = o.result in
-    let x0 = c.Signed-of in
+    let x0 = c.signed_of in
     x0.ensures k.Setup (bytes_at s p) (level-at k.Setup s p t o.ensures c.requires) refl

@@ -6,6 +6,7 @@ use Rattle.fields_schema.specs.declared.Kind.TheVariants as k
 use Rattle.fields_lookup.specs.Views.{bytes_at}
 use Rattle.fields_lookup.proofs.Levels.{level-at, only_at, part_at, sized-at}
 use Rattle.request_message.proofs.Sealing.{sealed-law}
+use Rattle.std.proofs.Common.{rules}
 use Rattle.request_message.proofs.read_sealed.Goals as goal
 
 pub num_of-auth_type-requires : goal.num_of-auth_type-requires
@@ -36,7 +37,7 @@ returns c =
     let x3 = c.auth_in-auth in
     let x6 = c.is_one in
     let x7 = c.all_of-ok in (
-      sealed-law s p x0.result x1.result x2.result x3.result x6.result x7.result (signed_of (word_of x3.result.identity.value)) (word_kept x3.result.identity.value c.struct_told-1.given.1.0.1) c.requires.1
+      sealed-law s p x0.result x1.result x2.result x3.result x6.result x7.result (signed_of (word_of x3.result.identity.value)) (word_kept x3.result.identity.value (search rules)) c.requires.1
           (x0.ensures k.Message (bytes_at s p) (level-at k.Message s p t o.ensures c.requires) refl)
           (x1.ensures.here k.Message k.HmacAuth (level-at k.Message s p t o.ensures c.requires) refl)
           (x2.ensures.bytes k.Message (level-at k.Message s p t o.ensures c.requires) refl)

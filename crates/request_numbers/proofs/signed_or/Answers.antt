@@ -4,12 +4,13 @@ use Rattle.base_integers.specs.Signed.{word_of}
 use Rattle.base_integers.specs.SignedLaws.{word_kept}
 use Rattle.base_definitions.specs.Options.{or_else}
 use Rattle.fields_schema.specs.Tree.{guard}
+use Rattle.std.proofs.Common.{rules}
 use Rattle.request_numbers.proofs.signed_or.Goals as goal
 
 pub returns-then-has : goal.returns-then-has
 returns-then-has c =
     let a = c.args in
-    word_kept a.n.value c.struct_told-1.given.1.0.1 ∙ ap (λ (b : Bool). or_else (word_of a.absent) (guard b (word_of a.n.value))) (sym c.if-has.true)
+    word_kept a.n.value (search rules) ∙ ap (λ (b : Bool). or_else (word_of a.absent) (guard b (word_of a.n.value))) (sym c.if-has.true)
 
 pub returns : goal.returns
 returns c =

@@ -1,4 +1,3 @@
-use Prim.Native.Nat.{◌-◌}
 use native.Mathlib.Omega.{arith}
 use mathlib.Core.Path.{◌≡◌, ◌∙◌, sym}
 use mathlib.Core.Bool.{true}
@@ -40,7 +39,7 @@ loop-n-preserved c =
     let e = (goal.at.loop-n-preserved c).Else-not-is_permission in
     let x = e.next_num-x in
     let o = e.loop-n in
-    walk-on c.args.s.now c.args.p o.left o.mask o.n c.requires o.invariant x.result x.ensures (not-false _ e.if-not-has.false)
+    walk-on c.args.s.now c.args.p o.left o.mask o.n c.requires o.invariant x.result x.ensures e.if-not-has.false
     (small e) c.with_bit-mask.result c.with_bit-mask.ensures
 
 pub returns : goal.returns

@@ -8,7 +8,8 @@ use lib.Signed.{non_neg}
 use mir.Syntax.{w8, w64}
 use mir.Val.{Fits}
 use mir.Facts.{to_z_pos}
-use borrow.Author.Tests.{not-true, not-false, leb-true}
+use borrow.Author.Tests.{leb-true}
+use Rattle.std.proofs.Common.{rules}
 use Rattle.base_integers.specs.Signed.{signed_of, word_of}
 use Rattle.base_integers.specs.SignedLaws.{word_kept}
 use Rattle.access_record.specs.Table.{offset_good}
@@ -19,26 +20,22 @@ use Rattle.fields_lookup.proofs.Slotted.{level-sized, part-ready}
 use Rattle.request_scope.specs.ScopeLaws.{level-at}
 use Rattle.request_scope.proofs.Facts.{Facts, facts-of, scope-unnamed, scope-far, scope-long, scope-read}
 use Rattle.request_scope.proofs.read_scope.Goals as goal
-use Rattle.request_scope.proofs.read_scope.Goals.{After-offset_good, After-open_at-t, After-permissions_of-held, Else-not-offset_good}
+use Rattle.request_scope.proofs.read_scope.Goals.{After-offset_good, After-open_at-t, After-permissions_of-held}
 
 level : (c : After-open_at-t) → Level kind.Scope (bytes_at c.args.s.now c.args.p) c.open_at-t.result
 level c = level-at c.open_at-t.result c.requires c.open_at-t.ensures
 
-facts : (c : After-permissions_of-held) → let n = c.before.before.before.before in let z = n.before.before.before.before in
-    Facts z.args.s.now z.args.p n.part_of-value.result (word_of c.signed_or-offset.result) c.flag_of-tls.result c.permissions_of-held.result
+facts : (c : After-permissions_of-held)
+    → Facts c.args.s.now c.args.p c.part_of-value.result (word_of c.signed_or-offset.result) c.flag_of-tls.result c.permissions_of-held.result
 facts c =
-    let n = c.before.before.before.before in
-    let z = n.before.before.before.before in
-    let t = n.open_at-t in
-    let v = n.part_of-value in
-    facts-of z.args.s.now z.args.p t.result z.requires t.ensures v.result v.ensures n.signed_of.result (word_of c.signed_or-offset.result) n.signed_of.ensures c.signed_or-offset.ensures
+    let t = c.open_at-t in
+    let v = c.part_of-value in
+    facts-of c.args.s.now c.args.p t.result c.requires t.ensures v.result v.ensures c.signed_of.result (word_of c.signed_or-offset.result) c.signed_of.ensures c.signed_or-offset.ensures
     c.num_of.result c.flag_of-tls.result c.num_of.ensures c.flag_of-tls.ensures c.permissions_of-held.result c.permissions_of-held.ensures
 
 -- the offset's word is judged
 judged : (c : After-offset_good) → offset_good (word_of c.signed_or-offset.result) ≡ c.offset_good.result
-judged c =
-    let n = c.signed_or-offset in
-    sym (c.offset_good.ensures ∙ ap offset_good (word_kept n.result n.type-inv))
+judged c = sym (c.offset_good.ensures ∙ ap offset_good (word_kept c.signed_or-offset.result (search rules)))
 
 -- a small word stands for itself
 word_small : {v : ℕ} → v ≤ 64 → signed_of v ≡ pos v
@@ -64,23 +61,21 @@ pub returns-then-not-ok : goal.returns-then-not-ok
 returns-then-not-ok c = scope-unnamed (facts (goal.at.returns-then-not-ok c).After-permissions_of-held) c.if-not-ok.true c.refused_scope.result c.refused_scope.ensures
 
 pub returns-then-not-offset_good : goal.returns-then-not-offset_good
-returns-then-not-offset_good c = let o = (goal.at.returns-then-not-offset_good c).After-offset_good in scope-far (facts o.before.before) (judged o ∙ c.if-not-offset_good.true) c.refused_scope-then-not-offset_good.result c.refused_scope-then-not-offset_good.ensures
+returns-then-not-offset_good c = let o = goal.at.returns-then-not-offset_good c in scope-far (facts o.After-permissions_of-held) (judged o.After-offset_good ∙ c.if-not-offset_good.true) c.refused_scope-then-not-offset_good.result c.refused_scope-then-not-offset_good.ensures
 
 pub returns-then-value-gt64 : goal.returns-then-value-gt64
 returns-then-value-gt64 c = scope-long (facts (goal.at.returns-then-value-gt64 c).After-permissions_of-held) c.if-value-gt64.true c.refused_scope-then-value-gt64.result c.refused_scope-then-value-gt64.ensures
 
-near : (c : Else-not-offset_good) → offset_good (word_of c.signed_or-offset.result) ≡ true
-near c = judged c.before ∙ c.if-not-offset_good.false
-
-small : (c : Else-not-offset_good) → word_of c.signed_or-offset.result ≤ 64
-small c =
-    let w = word_of c.signed_or-offset.result in
-    leb-true w 64 (sym (offset-good w) ∙ near c)
+small : {w : ℕ} → offset_good w ≡ true → w ≤ 64
+small {w} h = leb-true w 64 (sym (offset-good w) ∙ h)
 
 pub overflow_cast-result : goal.overflow_cast-result
 overflow_cast-result c =
-    let h = small (goal.at.overflow_cast-result c).Else-not-offset_good in
+    let h = small (judged (goal.at.overflow_cast-result c).After-offset_good ∙ c.if-not-offset_good.false) in
     subst (λ (y : ℤ). T (non_neg y) × Fits w8 (nat_abs y)) (sym (word_small h)) (tt, record { fits = omega arith })
 
 pub returns : goal.returns
-returns c = let o = (goal.at.returns c).Else-not-offset_good in let l = o.before.before in scope-read (facts l.before) (not-false _ l.if-not-ok.false) (near o) c.if-value-gt64.false _ (ap nat_abs (word_small (small o)))
+returns c =
+    let o = goal.at.returns c in
+    let near = judged o.After-offset_good ∙ c.if-not-offset_good.false in
+    scope-read (facts o.After-permissions_of-held) c.if-not-ok.false near c.if-value-gt64.false _ (ap nat_abs (word_small (small near)))

@@ -1,10 +1,10 @@
 use mathlib.Core.Path.{◌≡◌, refl, sym}
-use Prim.Native.Nat.{ℕ, ◌-◌}
+use Prim.Native.Nat.{ℕ}
 use native.Mathlib.Omega.{arith}
 use mathlib.Core.List.{map}
 use lib.Bits.{bit_xor}
 use lib.ListN.{length, replicate, length-set, length-map, length-replicate}
-use lib.Seq.{paste, paste-zero}
+use lib.Seq.{paste-zero}
 use Rattle.signature_sha1.specs.PaddedBlockLaws.{front-more}
 use Rattle.signature_hmac.specs.KeyBlockLaws.{masked-made, map_at}
 use Rattle.signature_hmac.proofs.key_block.Goals as goal

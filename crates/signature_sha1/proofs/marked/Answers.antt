@@ -1,8 +1,7 @@
 use mathlib.Core.Path.{◌≡◌, refl}
-use Prim.Native.Nat.{◌-◌}
 use native.Mathlib.Omega.{arith}
 use lib.ListN.{length, replicate, length-set}
-use lib.Seq.{paste, paste-zero}
+use lib.Seq.{paste-zero}
 use Rattle.signature_sha1.specs.PaddedBlockLaws.{front-more, marked-made}
 use Rattle.signature_sha1.proofs.marked.Goals as goal
 

@@ -1,8 +1,8 @@
 use mathlib.Core.Path.{◌≡◌, sym}
-use Prim.Native.Nat.{◌-◌, ◌*◌}
+use Prim.Native.Nat.{◌*◌}
 use native.Mathlib.Omega.{arith}
-use lib.ListN.{length, length-set}
-use lib.Seq.{paste, paste-zero}
+use lib.ListN.{length-set}
+use lib.Seq.{paste-zero}
 use Rattle.signature_sha1.specs.Sha1.{be}
 use Rattle.signature_sha1.specs.Sha1Laws.{be-at, be-length}
 use Rattle.signature_sha1.specs.PaddedBlockLaws.{paste_more, sized-made}

@@ -1,4 +1,3 @@
-use Rattle.std.proofs.Common.{◌-◌}
 use Rattle.signature_sha1_compression.specs.RoundLaws.{choice}
 use Rattle.signature_sha1_compression.proofs.Reached.{none, more, all}
 use Rattle.signature_sha1_compression.proofs.choice_rounds.Goals as goal

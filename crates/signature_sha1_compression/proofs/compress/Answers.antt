@@ -1,4 +1,4 @@
-use Rattle.signature_sha1_compression.specs.Compression.{compress, add_all, add, rounds}
+use Rattle.signature_sha1_compression.specs.Compression.{compress, add_all, add}
 use Rattle.signature_sha1_compression.proofs.compress.Goals as goal
 
 pub returns : goal.returns

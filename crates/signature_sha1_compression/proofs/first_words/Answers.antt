@@ -1,4 +1,4 @@
-use Rattle.std.proofs.Common.{◌≡◌, ◌-◌, sym, refl, ◌∙◌, arith, rules}
+use Rattle.std.proofs.Common.{◌≡◌, sym, refl, ◌∙◌, arith, rules}
 use Rattle.signature_sha1_compression.specs.CompressionLaws.{W-first}
 use Rattle.signature_sha1_compression.specs.RingLaws.{ring-none, ring-more}
 use Rattle.signature_sha1_compression.proofs.first_words.Goals as goal

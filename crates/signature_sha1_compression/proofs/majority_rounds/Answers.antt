@@ -1,4 +1,3 @@
-use Rattle.std.proofs.Common.{◌-◌}
 use Rattle.signature_sha1_compression.specs.RoundLaws.{majority}
 use Rattle.signature_sha1_compression.proofs.Reached.{none, more, all}
 use Rattle.signature_sha1_compression.proofs.majority_rounds.Goals as goal

@@ -1,4 +1,4 @@
-use Rattle.std.proofs.Common.{◌-◌, refl, arith}
+use Rattle.std.proofs.Common.{refl, arith}
 use Rattle.signature_sha1_compression.proofs.Reached.{none, more, all}
 use Rattle.signature_sha1_compression.proofs.parity_rounds.Goals as goal
 

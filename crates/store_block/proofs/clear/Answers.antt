@@ -1,8 +1,8 @@
-use Prim.Native.Nat.{ℕ, ◌-◌}
+use Prim.Native.Nat.{ℕ}
 use native.Mathlib.Omega.{arith}
 use native.Mathlib.Nat.{le_antisymm}
 use mathlib.Core.Path.{◌∙◌, ap, refl, sym}
-use lib.ListN.{length, replicate, length-set}
+use lib.ListN.{replicate, length-set}
 use Rattle.store_block.specs.Over.{over}
 use Rattle.store_block.specs.OverLaws.{over_none, zero_more}
 use Rattle.store_block.proofs.clear.Goals as goal

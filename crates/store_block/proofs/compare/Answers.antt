@@ -1,8 +1,7 @@
-use Prim.Native.Nat.{ℕ, ◌+◌, ◌-◌, ◌≤◌, ◌<◌}
+use Prim.Native.Nat.{◌+◌, ◌≤◌, ◌<◌}
 use native.Mathlib.Omega.{arith}
 use native.Mathlib.Nat.{le_antisymm}
 use mathlib.Core.Path.{◌∙◌, refl, sym}
-use mathlib.Core.List.{List}
 use lib.ListN.{length}
 use Rattle.store_block.specs.Word.{word_at, Bytes}
 use Rattle.store_block.specs.WordLaws.{word-less, word-greater, word_same}

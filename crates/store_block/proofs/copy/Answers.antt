@@ -1,9 +1,9 @@
-use Prim.Native.Nat.{ℕ, ◌+◌, ◌-◌}
+use Prim.Native.Nat.{ℕ, ◌+◌}
 use native.Mathlib.Omega.{arith}
 use native.Mathlib.Nat.{le_antisymm}
 use mathlib.Core.Path.{◌∙◌, ap, refl, sym}
 use mathlib.Core.List.{List}
-use lib.ListN.{length, take, set, get_or, length-set}
+use lib.ListN.{take, set, get_or, length-set}
 use lib.Seq.{take-length}
 use Rattle.store_block.specs.Over.{over}
 use Rattle.store_block.specs.OverLaws.{over_none, over-copy}

@@ -2,7 +2,6 @@ use native.Mathlib.Omega.{arith}
 use Rattle.store_block.specs.Direct.{number_at}
 use Rattle.store_block_sum_check.proofs.held.Goals as goal
 
--- src/lib.rt:29:1
 pub returns : goal.returns
 unfolding number_at
 returns c =

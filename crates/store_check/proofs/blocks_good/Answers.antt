@@ -2,8 +2,7 @@ use Prim.Native.Nat.{ℕ, ◌+◌, ◌-◌}
 use native.Mathlib.Omega.{arith}
 use mathlib.Core.Path.{◌≡◌, ◌∙◌, refl, sym, subst}
 use mathlib.Core.List.{List, []}
-use lib.ListN.{length, get_or, take, drop, length-drop}
-use borrow.Author.Tests.{not-true, not-false}
+use lib.ListN.{get_or, take, drop, length-drop}
 use Rattle.store_block.specs.Block.{BlockGood}
 use Rattle.store_block.specs.DecidesLaws.{says-yes, says-no, decides-by}
 use Rattle.store_layout.specs.Store.{blocks_in}
@@ -140,7 +139,6 @@ loop-i-preserved c = let d = (goal.at.loop-i-preserved c).After-compare in (
   (let w = d.wide.ensures in omega arith),
   (λ g. (turn d g).rest),
   (λ r. back d (record { block_good = sound d; below = sym d.compare.ensures ∙ c.in-Less.is; rest = r })),
-
 )
 
 pub returns : goal.returns

@@ -1,5 +1,4 @@
 use mathlib.Core.Path.{◌∙◌, sym}
-use borrow.Author.Tests.{not-true, not-false}
 use Rattle.store_block.specs.DecidesLaws.{says-no, decides-by}
 use Rattle.store_layout.specs.Size.{SizeGood}
 use Rattle.store_layout.proofs.SizeLaws.{size-decides, good-size}

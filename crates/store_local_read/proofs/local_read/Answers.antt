@@ -1,7 +1,6 @@
 use Prim.Native.Nat.{ℕ, ◌+◌, ◌-◌, ◌≤◌}
 use native.Mathlib.Omega.{arith}
 use mathlib.Core.Path.{◌≡◌, ◌∙◌, ap, sym}
-use mathlib.Core.List.{List}
 use lib.ListN.{length, take, drop}
 use Rattle.store_local_read.specs.declared.Local.{Local}
 use Rattle.store_local_read.specs.Local.{answer_of, part_of}

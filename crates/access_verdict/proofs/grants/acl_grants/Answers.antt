@@ -1,6 +1,5 @@
 use Prim.Native.Nat.{ℕ, ◌+◌, ◌*◌}
 use mathlib.Core.Path.{◌∙◌, sym, ap}
-use mathlib.Core.Bool.{true}
 use native.Mathlib.Omega.{arith}
 use Rattle.base_definitions.specs.Lists.{all, any}
 use Rattle.access_record.specs.Table.{scope_good}
@@ -52,7 +51,6 @@ loop-left-preserved c = (
   both-snd (scope_good (scope_at _ _)) _ (sym (scopes-test _ _ _ c.loop-left-test.true) ∙ c.loop-left.invariant.1),
   goes-yes (any-turn _ _ _ _ c.loop-left-test.true) c.loop-left.invariant.2
       (sym c.scope_grants.ensures ∙ c.if-scope_grants.false),
-
 )
 
 pub returns : goal.returns

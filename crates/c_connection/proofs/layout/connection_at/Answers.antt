@@ -16,4 +16,4 @@ returns c =
     let l = c.args.bytes.now in
     let n = c.signed_at in
     let q = c.signed_at-2 in
-    held l (word_kept n.result n.type-inv ∙ n.ensures) (word_kept q.result q.type-inv ∙ q.ensures)
+    held l (word_kept n.result n.type_inv ∙ n.ensures) (word_kept q.result q.type_inv ∙ q.ensures)

@@ -1,4 +1,4 @@
-use Rattle.std.proofs.Common.{rules, arith, sym, ◌∙◌}
+use Rattle.std.proofs.Common.{arith, sym, ◌∙◌}
 use Rattle.fields_decode.proofs.Nesting.{reading-start, reading-end, reading-none, reading-refused, reading-skip, taken, reading-on, reading-shut, shorter}
 use Rattle.fields_decode.proofs.nested.+opens_reads.Goals as goal
 

@@ -1,4 +1,3 @@
-use Prim.Native.Nat.{◌-◌}
 use native.Mathlib.Omega.{arith}
 use Rattle.fields_decode.proofs.Storing.{going_start, going_end, going-none, going-refused, going-skip, takes-below, going_on, going-off}
 use Rattle.fields_decode.proofs.slots.collect.Goals as goal

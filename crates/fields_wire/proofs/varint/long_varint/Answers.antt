@@ -1,4 +1,4 @@
-use Prim.Native.Nat.{◌-◌, ◌%◌}
+use Prim.Native.Nat.{◌%◌}
 use native.Mathlib.Omega.{arith}
 use Rattle.fields_wire.proofs.VarintPlaces.{partial-start, place-small, product_small, partial-cut, partial-last, partial-more, nine-low, partial-tenth, ends-within}
 use Rattle.fields_wire.proofs.varint.long_varint.Goals as goal

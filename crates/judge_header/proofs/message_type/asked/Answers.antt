@@ -1,6 +1,7 @@
 use mathlib.Core.Path.{sym, ap}
 use Rattle.protocol.specs.Operation.{asked, asked_in}
 use Rattle.judge_header.proofs.MessageTypeLaws.{not-built}
+use borrow.Author.Rules.{rules}
 use Rattle.judge_header.proofs.message_type.asked.Goals as goal
 
 pub returns-in-2 : goal.returns-in-2
@@ -52,4 +53,4 @@ unfolding asked asked_in
 returns-in-32 c = sym (ap asked c.in-32.is)
 
 pub returns-in_default : goal.returns-in_default
-returns-in_default c = let r = c.in_default.rest in not-built c.args.n r.0.0.0.0.0.0.0.0.0.0.0.1 r.0.0.0.0.0.0.0.0.0.0.1 r.0.0.0.0.0.0.0.0.0.1 r.0.0.0.0.0.0.0.0.1 r.0.0.0.0.0.0.0.1 r.0.0.0.0.0.0.1 r.0.0.0.0.0.1 r.0.0.0.0.1 r.0.0.0.1 r.0.0.1 r.0.1 r.1
+returns-in_default c = not-built c.args.n (search rules) (search rules) (search rules) (search rules) (search rules) (search rules) (search rules) (search rules) (search rules) (search rules) (search rules) (search rules)

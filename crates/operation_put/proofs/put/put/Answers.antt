@@ -1,5 +1,4 @@
 use mathlib.Core.Path.{sym, ◌∙◌}
-use borrow.Author.Tests.{not-true, not-false}
 use Rattle.operation_put.specs.PutLaws.{put_wrong, put_right}
 use Rattle.operation_put.proofs.put.put.Goals as goal
 
@@ -8,4 +7,4 @@ returns-then-not-version_fits c = λ k p. put_wrong c.args.value.now c.requires.
 
 pub returns : goal.returns
 returns c = let t = c.put in
-    λ k p. put_right c.args.value.now c.requires.0 p c.compare_version.result c.compare_version.ensures (sym c.if-not-version_fits.false ∙ c.version_fits.ensures) t.result t.ensures.0 t.ensures.1 c.put_code.ensures
+    λ k p. put_right c.args.value.now c.requires.0 p c.compare_version.result c.compare_version.ensures (sym c.if-not-version_fits.false ∙ c.version_fits.ensures) t.result t.ensures.value t.ensures.store_after c.put_code.ensures

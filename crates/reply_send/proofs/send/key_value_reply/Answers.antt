@@ -1,3 +1,4 @@
+use mathlib.Core.List.{[]}
 use Rattle.protocol.specs.State.{State}
 use Rattle.protocol.specs.Judge.{succeeds, key_value}
 use Rattle.reply_send.specs.SentLaws.{sends}

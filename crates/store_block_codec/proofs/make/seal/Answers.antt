@@ -6,7 +6,6 @@ use Rattle.base_definitions.specs.BigEndian.{be32}
 use Rattle.store_block_codec.specs.BuiltLaws.{last_set}
 use Rattle.store_block_codec.proofs.make.seal.Goals as goal
 
--- src/lib.rt:83:1
 pub returns : goal.returns
 unfolding be32
 returns c = let l = c.args.b.now in

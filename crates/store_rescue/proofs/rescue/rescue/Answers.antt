@@ -1,8 +1,6 @@
 use mathlib.Core.Path.{◌≡◌, ◌∙◌, refl, sym}
 use mathlib.Core.Bool.{true}
-use lib.ListN.{length}
-use borrow.Author.Tests.{not-true, not-false}
-use Rattle.store_layout.specs.Store.{blocks_in, size_good}
+use Rattle.store_layout.specs.Store.{size_good}
 use Rattle.store_layout.specs.Size.{SizeGood}
 use Rattle.store_layout.proofs.SizeLaws.{size-decides}
 use Rattle.store_rescue.proofs.SurveyLaws.{names, distinct, fits, put_right, store-refused, report-refused, done}

@@ -1,4 +1,3 @@
-use Prim.Native.Nat.{◌-◌}
 use native.Mathlib.Omega.{arith}
 use Rattle.store_rescue.proofs.SurveyLaws.{surveying-start, surveying-more, surveyed}
 use Rattle.store_rescue.proofs.rescue.survey.Goals as goal

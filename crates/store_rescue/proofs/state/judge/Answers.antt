@@ -2,8 +2,6 @@ use Prim.Native.Nat.{ℕ}
 use mathlib.Core.Path.{◌≡◌, sym, ap, ◌∙◌}
 use lib.ListN.{replicate}
 use Rattle.store_block.specs.Block.{SumRight}
-use borrow.Author.Rules.{rules}
-use borrow.Author.Tests.{not-true, not-false}
 use Rattle.store_rescue.specs.State.{state_of}
 use Rattle.store_rescue.proofs.StateLaws.{blank-state, wrong-state, broken-state, good-sound}
 use Rattle.store_rescue.proofs.state.judge.Goals as goal

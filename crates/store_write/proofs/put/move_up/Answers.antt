@@ -2,7 +2,7 @@ use Prim.Native.Nat.{ℕ, ◌+◌, ◌-◌}
 use native.Mathlib.Omega.{arith}
 use native.Mathlib.Nat.{le_antisymm}
 use mathlib.Core.Path.{◌≡◌, ◌∙◌, ap, refl, sym}
-use lib.ListN.{length, take, drop, length-set}
+use lib.ListN.{take, drop, length-set}
 use Rattle.store_block.specs.Over.{over}
 use Rattle.store_block.specs.OverLaws.{over_none}
 use Rattle.store_write.specs.MoveLaws.{up_more}

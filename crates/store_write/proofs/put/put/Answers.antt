@@ -3,7 +3,6 @@ use native.Mathlib.Omega.{arith}
 use mathlib.Core.Path.{◌≡◌, ◌∙◌, ap, sym, subst}
 use mathlib.Core.List.{List}
 use lib.ListN.{length}
-use borrow.Author.Tests.{not-true, not-false}
 use Rattle.store_block.specs.Entry.{Entry, entry, Fit}
 use Rattle.store_block.specs.Block.{block, decode, BlockGood}
 use Rattle.store_block.specs.BlockLaws.{length-block, fit-good, good-fit, decode-own}
@@ -14,7 +13,6 @@ use Rattle.store_layout.proofs.StoreLaws.{good_length, room}
 use Rattle.store_layout.specs.Entries.{find_in}
 use Rattle.store_write.specs.Change.{insert_store}
 use Rattle.store_write.specs.ChangeLaws.{unfit, at_low, gap-low, replaced, put_in}
-use borrow.Author.Rules.{rules}
 use Rattle.store_write.proofs.put.put.Goals as goal
 use Rattle.store_write.proofs.put.put.Goals.{After-find, In-At, In-Gap}
 
@@ -46,7 +44,7 @@ pub returns-then-not-good : goal.returns-then-not-good
 returns-then-not-good c = let a = c.args in
     let e = E a.key.now a.version.now a.tag.now a.value.now a.algorithm in
     let t = unfit a.store.now c.requires.0 e
-        (λ f. c.good.ensures.no c.if-not-good.true (subst (λ (x : List ℕ). BlockGood x) (sym c.make-b.ensures) (fit-good e f))) in
+    (λ f. c.good.ensures.no c.if-not-good.true (subst (λ (x : List ℕ). BlockGood x) (sym c.make-b.ensures) (fit-good e f))) in
     record { value = t.0; store_after = t.1 }
 
 pub overflow_mul-a : goal.overflow_mul-a
