@@ -24,22 +24,22 @@ fn show_number(rt: &impl Print, v: u64) -> io::Result<()> {
 }
 
 // A field that is no message, or where one begins.
-fn show_plain(rt: &impl Print, s: &[u8], number: usize, what: Taken) -> io::Result<()> {
+fn show_plain(rt: &impl Print, s: &[u8], number: usize, what: &Taken) -> io::Result<()> {
     print!(rt; "{number}")?;
     match what {
         Taken::Number(v) => {
             write(rt, b"=")?;
-            show_number(rt, v)?;
+            show_number(rt, *v)?;
             write(rt, b";")
         }
         Taken::Slice { start, len } => {
             write(rt, b":")?;
-            write_hex(rt, part(s, start, len))?;
+            write_hex(rt, part(s, *start, *len))?;
             write(rt, b";")
         }
         Taken::Fixed { start } => {
             write(rt, b"#")?;
-            write_hex(rt, part(s, start, 4))?;
+            write_hex(rt, part(s, *start, 4))?;
             write(rt, b";")
         }
         Taken::Inside {
@@ -87,7 +87,7 @@ fn show_field(
     what: Taken,
     depth: usize,
 ) -> io::Result<()> {
-    show_plain(rt, s, number, what)?;
+    show_plain(rt, s, number, &what)?;
     if let Taken::Inside { kind, start, len } = what {
         if 0 < depth {
             show(rt, part(s, start, len), kind, depth - 1)?;

@@ -24,4 +24,4 @@ returns c =
     let z = c.args in
     let a = c.answer-r in
     let at = c.connection_at-c in
-    (answering-call z.store.now z.device.now z.connection.now z.readings.now z.input.now z.out.now z.counts.now at.ensures a.new.0 a.new.1.0 a.new.1.1.1.1.1.0 a.result a.ensures.0 c.note.ensures, subst (λ (d : Connection). d.number < 2 ^ 64) at.ensures a.ensures.1)
+    (answering-call z.store.now z.device.now z.connection.now z.readings.now z.input.now z.out.now z.counts.now at.ensures a.new.store a.new.device a.new.out a.result a.ensures.0 c.note.ensures, subst (λ (d : Connection). d.number < 2 ^ 64) at.ensures a.ensures.1)

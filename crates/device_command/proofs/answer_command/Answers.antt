@@ -6,6 +6,9 @@ use Rattle.protocol.specs.State.{lent}
 use Rattle.protocol_connection.specs.ConnectionOf.{connection_of}
 use Rattle.device_command.specs.Commands.{command_in}
 use Rattle.device_command.proofs.Steps.{decodes, undecoded}
+use mir.Syntax.{w64}
+use mir.Val.{SFits}
+use borrow.Author.Rules.{rules}
 use Rattle.device_command.proofs.answer_command.Goals as goal
 
 pub answer_request-requires : goal.answer_request-requires
@@ -27,5 +30,7 @@ returns c =
     let r = c.read_request-request.result in
     let s = lent c.args.store.now c.args.device.now c.args.readings.now (connection_of c.args.sender.connection) in
     let from = c.args.sender in
+    let identity : SFits w64 c.args.sender.identity = search rules in
+    let number : SFits w64 c.args.sender.connection.number = search rules in
     undecoded s (word_of c.args.sender.identity) c.args.signing_key.now c.args.value.now (reading.decodes c.args.command.now) (command_in c.args.command.now r) r.ok c.read_request-request.ensures.0 _ _ _
-    c.if-ok.false (word_kept from.identity c.type_inv.sender.0.1) (word_kept from.connection.number c.type_inv.connection.0.1) (c.status.ensures s)
+    c.if-ok.false (word_kept from.identity identity.sfits) (word_kept from.connection.number number.sfits) (c.status.ensures s)

@@ -10,6 +10,9 @@ use Rattle.request_parts.specs.Views.{header_view}
 use Rattle.request_command.specs.Views.{body_view}
 use Rattle.protocol_connection.specs.ConnectionOf.{connection_of}
 use Rattle.device_command.proofs.Steps.{accepts, asked-as, bits, heard-by, refused}
+use mir.Syntax.{w64}
+use mir.Val.{SFits}
+use borrow.Author.Rules.{rules}
 use Rattle.device_command.proofs.answer_request.Goals as goal
 
 pub status-requires : goal.status-requires
@@ -22,9 +25,13 @@ returns-then-code-ne0 c =
     let q = c.args.received.request in
     let g = c.heading_of-heading.result in
     let k = c.heading_of-heading.ensures in
+    let identity : SFits w64 c.args.received.sender.identity = search rules in
+    let number : SFits w64 c.args.received.sender.connection.number = search rules in
+    let sequence : SFits w64 c.heading_of-heading.result.sequence.value = search rules in
+    let version : SFits w64 c.heading_of-heading.result.version = search rules in
     refused k s (signed_of (word_of from.identity)) (signed_of (word_of from.connection.number)) (signed_of (word_of g.sequence.value)) (word_of from.identity)
-    (word_kept from.identity c.type_inv.sender.0.1) (word_kept from.connection.number c.type_inv.connection.0.1) (word_kept g.sequence.value c.type_inv.sequence.1.0.1) c.reply_type.result c.reply_type.ensures c.args.signing_key.now (body_view c.args.command.now q.body) (acl_of (table_of c.args.device.now) from.acl) c.args.value.now c.header_fault-code.result _ _ _
-    (c.header_fault-code.ensures s (guard q.headed (header_view q.header)) (heard-by k s _ (word_kept g.version c.type_inv.heading.0.1))) c.if-code-ne0.true (c.status.ensures s)
+    (word_kept from.identity identity.sfits) (word_kept from.connection.number number.sfits) (word_kept g.sequence.value sequence.sfits) c.reply_type.result c.reply_type.ensures c.args.signing_key.now (body_view c.args.command.now q.body) (acl_of (table_of c.args.device.now) from.acl) c.args.value.now c.header_fault-code.result _ _ _
+    (c.header_fault-code.ensures s (guard q.headed (header_view q.header)) (heard-by k s _ (word_kept g.version version.sfits))) c.if-code-ne0.true (c.status.ensures s)
 
 pub admit_and_perform-requires : goal.admit_and_perform-requires
 admit_and_perform-requires c =
@@ -37,8 +44,12 @@ returns c =
     let q = c.args.received.request in
     let g = c.heading_of-heading.result in
     let k = c.heading_of-heading.ensures in
+    let identity : SFits w64 c.args.received.sender.identity = search rules in
+    let number : SFits w64 c.args.received.sender.connection.number = search rules in
+    let sequence : SFits w64 c.heading_of-heading.result.sequence.value = search rules in
+    let version : SFits w64 c.heading_of-heading.result.version = search rules in
     let e = guard q.headed (header_view q.header) in
     accepts k s (signed_of (word_of from.identity)) (signed_of (word_of from.connection.number)) (signed_of (word_of g.sequence.value)) (word_of from.identity)
-    (word_kept from.identity c.type_inv.sender.0.1) (word_kept from.connection.number c.type_inv.connection.0.1) (word_kept g.sequence.value c.type_inv.sequence.1.0.1) c.reply_type.result c.reply_type.ensures c.args.signing_key.now (body_view c.args.command.now q.body) (acl_of (table_of c.args.device.now) from.acl) c.args.value.now c.header_fault-code.result _ _ _
-    (c.header_fault-code.ensures s e (heard-by k s _ (word_kept g.version c.type_inv.heading.0.1))) _ _ (connection_of c.accept.result) c.if-code-ne0.false c.accept.ensures
+    (word_kept from.identity identity.sfits) (word_kept from.connection.number number.sfits) (word_kept g.sequence.value sequence.sfits) c.reply_type.result c.reply_type.ensures c.args.signing_key.now (body_view c.args.command.now q.body) (acl_of (table_of c.args.device.now) from.acl) c.args.value.now c.header_fault-code.result _ _ _
+    (c.header_fault-code.ensures s e (heard-by k s _ (word_kept g.version version.sfits))) _ _ (connection_of c.accept.result) c.if-code-ne0.false c.accept.ensures
     (c.admit_and_perform.ensures (with_sequence (connection_of from.connection) (word_of (signed_of (word_of g.sequence.value)))) (type_in e) refl (asked-as k s))

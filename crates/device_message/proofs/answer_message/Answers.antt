@@ -10,6 +10,9 @@ use Rattle.access_record.specs.declared.IdentityPlace.TheVariants.{At}
 use Rattle.protocol.specs.State.{State, lent}
 use Rattle.protocol_connection.specs.ConnectionOf.{connection_of}
 use Rattle.device_message.specs.MessageLaws.{sent-as, sealed, unsealed, unread, known, unknown}
+use mir.Syntax.{w64}
+use mir.Val.{SFits}
+use borrow.Author.Rules.{rules}
 use Rattle.device_message.proofs.answer_message.Goals as goal
 
 pub returns-then-not-ok : goal.returns-then-not-ok
@@ -30,7 +33,8 @@ returns-in-At c =
     let a = c.args in
     let s = lent a.store.now a.device.now a.readings.now (connection_of a.connection) in
     let m = c.read_message-m in
-    sent-as (known s a.value.now a.message.now (sealed a.message.now m.result m.ensures.0 c.if-not-ok.false (word_kept m.result.identity c.type_inv.m.1.0.1)) (sym c.find_identity.ensures ∙ c.in-At.is))
+    let identity : SFits w64 c.read_message-m.result.identity = search rules in
+    sent-as (known s a.value.now a.message.now (sealed a.message.now m.result m.ensures.0 c.if-not-ok.false (word_kept m.result.identity identity.sfits)) (sym c.find_identity.ensures ∙ c.in-At.is))
     c.verify_sender.ensures
 
 pub returns-in-Nobody : goal.returns-in-Nobody
@@ -38,5 +42,6 @@ returns-in-Nobody c =
     let a = c.args in
     let s = lent a.store.now a.device.now a.readings.now (connection_of a.connection) in
     let m = c.read_message-m in
-    sent-as (unknown s a.value.now a.message.now (sealed a.message.now m.result m.ensures.0 c.if-not-ok.false (word_kept m.result.identity c.type_inv.m.1.0.1)) (sym c.find_identity.ensures ∙ c.in-Nobody.is))
+    let identity : SFits w64 c.read_message-m.result.identity = search rules in
+    sent-as (unknown s a.value.now a.message.now (sealed a.message.now m.result m.ensures.0 c.if-not-ok.false (word_kept m.result.identity identity.sfits)) (sym c.find_identity.ensures ∙ c.in-Nobody.is))
     (c.close-in-Nobody.ensures a.store.now a.device.now a.readings.now)

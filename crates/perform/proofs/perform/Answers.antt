@@ -1,5 +1,5 @@
 use mathlib.Core.Path.{◌≡◌, refl, ap, subst}
-use mathlib.Core.List.{List}
+use mathlib.Core.List.{List, []}
 use Prim.Native.Nat.{ℕ}
 use Rattle.access_permission.specs.Permissions.{READ, RANGE}
 use Rattle.access_record.specs.Table.{acl_of}

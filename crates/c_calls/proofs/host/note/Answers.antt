@@ -1,5 +1,5 @@
 use mathlib.Core.Path.{sym, ap, ◌∙◌}
-use mathlib.Core.List.{List, ◌∷◌}
+use mathlib.Core.List.{List, [], ◌∷◌}
 use Prim.Native.Nat.{ℕ}
 use Rattle.c_calls.specs.Notes.{noted, notes}
 use Rattle.c_calls.proofs.host.note.Goals as goal
@@ -25,5 +25,4 @@ returns-in-ReadingsBad c = let z = c.args in sym (ap (notes z.connection.now z.c
 pub returns-in-Answered : goal.returns-in-Answered
 returns-in-Answered c =
     let z = c.args in
-    let x = c.r-1.given in
-    ap (λ (l : List ℕ). noted 0 l (x.0.1.0 ∷ x.0.0 ∷ [])) c.update.ensures ∙ sym (ap (notes z.connection.now z.counts.now) x.1)
+    ap (λ (l : List ℕ). noted 0 l (c.in-Answered.taken ∷ c.in-Answered.written ∷ [])) c.update.ensures ∙ sym (ap (notes z.connection.now z.counts.now) c.in-Answered.is)

@@ -3,8 +3,7 @@ use Rattle.c_calls.proofs.StoreSteps.{found_as}
 use Rattle.c_calls.proofs.store.find.Goals as goal
 
 pub returns-in-Value : goal.returns-in-Value
-returns-in-Value c = let x = c.start-1.given in
-    found_as c.args.part.now (Value x.0.0 x.0.1.0) x.1 c.local_find.ensures
+returns-in-Value c = found_as c.args.part.now (Value c.in-Value.start c.in-Value.len) c.in-Value.is c.local_find.ensures
 
 pub returns-in-NotFound : goal.returns-in-NotFound
 returns-in-NotFound c = found_as c.args.part.now NotFound c.in-NotFound.is c.local_find.ensures
