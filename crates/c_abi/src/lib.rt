@@ -1,4 +1,6 @@
 // The box's calls for a host in C, over lent bytes. `c_abi_c` exports them; include/ridgeladle.h says how a host uses them.
+#![tactic(auto)]
+
 ghost use Rattle.std.specs.Prelude.{◌≡◌, not, ◌^◌, ◌<◌, eqb};
 ghost use Rattle.base_integers.specs.Signed.{word_of};
 ghost use Rattle.signature_sha1.specs.Sha1.{sha1_answer};

@@ -1,4 +1,6 @@
 // The calls of `signature_hmac` for C: `c_digest_c` exports them to the benchmark, and `c_abi` passes them on to hosts.
+#![tactic(auto)]
+
 ghost use Rattle.signature_sha1.specs.Sha1.{sha1_answer};
 ghost use Rattle.signature_hmac.specs.Hmac.{hmac_answer};
 ghost use Rattle.c_digest.specs.Written.{Written};
