@@ -36,16 +36,8 @@ fn put_scope(out: &mut [u8], at: usize, offset: u8, mask: u16, tls: bool, value:
         (scope_bytes (record { offset = offset; value = value.now; permissions = mask; tls_required = tls }))
         out.old out.new }
 {
-    let head = [
-        offset,
-        value.len() as u8,
-        (mask / 256) as u8,
-        (mask % 256) as u8,
-        flag_of(tls),
-        0,
-        0,
-        0,
-    ];
+    let [high, low] = mask.to_be_bytes();
+    let head = [offset, value.len() as u8, high, low, flag_of(tls), 0, 0, 0];
     let b = put_bytes(out, at, &head);
     put_filled(out, b, value)
 }

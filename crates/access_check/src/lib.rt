@@ -11,7 +11,7 @@ use access_record::offsets::{
     ACL_BYTES, ACL_COUNT, ACLS, KEY_LENGTH, PERMISSIONS, PERMISSIONS_LOW, SCOPE_BYTES, SCOPE_COUNT,
     SCOPES, VALUE_LENGTH,
 };
-use access_record::{IdentityPlace, Record, signed_at};
+use access_record::{Record, signed_at};
 use base_integers::as_usize::wide;
 
 fn mask_good(mask: usize) -> bool
@@ -43,14 +43,10 @@ fn scopes_good(device: &Record, a: usize, n: usize) -> bool
     requires { a + n * 72 ≤ 2960 }
     ensures { result ≡ all scope_good (scopes_at device.now a n) }
 {
-    let mut at = a;
-    let mut left = n;
-    while 0 < left {
-        if !scope_good(device, at) {
+    for k in 0..n {
+        if !scope_good(device, a + k * SCOPE_BYTES) {
             return false;
         }
-        at += SCOPE_BYTES;
-        left -= 1;
     }
     true
 }
@@ -80,18 +76,14 @@ fn acls_good(device: &Record, n: usize) -> bool
     requires { 16 + n * 368 ≤ 2960 }
     ensures { result ≡ acls_good (acls_at device.now 16 n) }
 {
-    let mut at: usize = ACLS;
-    let mut left = n;
-    while 0 < left {
+    for k in 0..n {
+        let at = ACLS + k * ACL_BYTES;
         if !acl_good(device, at) {
             return false;
         }
         let identity = signed_at(device, at);
-        at += ACL_BYTES;
-        left -= 1;
-        match find_from(device, at, left, 0, identity) {
-            IdentityPlace::Nobody => {}
-            IdentityPlace::At(_) => return false,
+        if find_from(device, at + ACL_BYTES, n - k - 1, 0, identity).is_some() {
+            return false;
         }
     }
     true

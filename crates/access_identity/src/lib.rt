@@ -7,29 +7,23 @@ ghost use Rattle.access_record.specs.Table.{table_good, find_from, place_of, acl
 ghost use Rattle.access_record.specs.Record.{acls_at, table_of, Placed};
 
 use access_record::offsets::{ACL_BYTES, ACL_COUNT, ACLS, KEY, KEY_LENGTH};
-use access_record::{IdentityPlace, Record, signed_at};
+use access_record::{Record, signed_at};
 use base_integers::as_usize::wide;
 
 // The first of n ACLs from byte a on that has the identity, counted from i.
-pub fn find_from(device: &Record, a: usize, n: usize, i: usize, identity: i64) -> IdentityPlace
+pub fn find_from(device: &Record, a: usize, n: usize, i: usize, identity: i64) -> Option<usize>
     requires { (a + n * 368 ≤ 2960) × (i ≤ 8) }
     ensures { result ≡ find_from i (word_of identity) (acls_at device.now a n) }
 {
-    let mut at = a;
-    let mut left = n;
-    let mut j = i;
-    while 0 < left {
-        if signed_at(device, at) == identity {
-            return IdentityPlace::At(j);
+    for k in 0..n {
+        if signed_at(device, a + k * ACL_BYTES) == identity {
+            return Some(i + k);
         }
-        at += ACL_BYTES;
-        left -= 1;
-        j += 1;
     }
-    IdentityPlace::Nobody
+    None
 }
 
-pub fn find_identity(device: &Record, identity: i64) -> IdentityPlace
+pub fn find_identity(device: &Record, identity: i64) -> Option<usize>
     requires { table_good (table_of device.now) ≡ true }
     ensures { result ≡ place_of (table_of device.now) (word_of identity) }
 {

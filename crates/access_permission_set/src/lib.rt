@@ -9,13 +9,7 @@ ghost use Rattle.access_record.specs.Table.{named};
 pub fn is_permission(p: u64) -> bool
     ensures { result ≡ named p }
 {
-    if p <= 5 {
-        return true;
-    }
-    if p < 7 {
-        return false;
-    }
-    p <= 9
+    matches!(p, 0..=5 | 7..=9)
 }
 
 // The set with one number more.

@@ -1,8 +1,7 @@
 -- What the proofs of the code go by: each test over the record's bytes, and one turn of each walk.
-use Rattle.std.specs.Prelude.{◌≡◌, refl, Bool, true, false, cond, ◌&&◌, ◌||◌, List, [], ◌∷◌, ℕ, zero, suc, ◌+◌, ◌-◌, ◌*◌, ◌≤◌, ◌<◌, leb, length, take, drop, get_or}
+use Rattle.std.specs.Prelude.{◌≡◌, refl, Bool, true, false, cond, ◌&&◌, ◌||◌, List, [], ◌∷◌, ℕ, zero, suc, ◌+◌, ◌-◌, ◌*◌, ◌≤◌, ◌<◌, leb, length, take, drop, get_or, Some, None}
 use Rattle.std.proofs.Common.{sym, ap, ap₂, ◌∙◌, not-suc-le-zero, add-one, eq-eqb, ne_eqb, leb-true, drop-cons}
 use native.Mathlib.Omega.{arith}
-use Rattle.access_record.specs.declared.IdentityPlace.TheVariants.{At, Nobody}
 use Rattle.base_definitions.specs.Lists.{all, within, any}
 use Rattle.access_record.specs.Table.{Scope, Acl, acl_of, mask_good, scope_good, acl_good, find_from, is_nobody, acls_good, table_good, no_acl}
 use Rattle.access_record.proofs.OffsetLaws.{offset-good}
@@ -53,16 +52,44 @@ unfolding acls_at
 length-acls_at l a zero = refl
 length-acls_at l a (suc n) = ap suc (length-acls_at l (a + 368) n)
 
--- ---- one turn
-scopes-turn : (l : List ℕ) (a n : ℕ) → 0 < n → scopes_at l a n ≡ scope_at l a ∷ scopes_at l (a + 72) (n - 1)
-unfolding scopes_at
-scopes-turn l a zero h = absurd (not-suc-le-zero h)
-scopes-turn l a (suc n) h = let e : n ≡ suc n - 1 = omega arith in ap (λ (m : ℕ). scope_at l a ∷ scopes_at l (a + 72) m) e
+-- ---- what is left of a walk over n places from a on, when it is at place k: from one place to the next, at the first and past the last
+module _ {X : Type 0} (f : ℕ → ℕ → X) (size a : ℕ) where
+  next_place : (k n : ℕ) → f (a + k * size + size) (n - k - 1) ≡ f (a + (k + 1) * size) (n - (k + 1))
+  next_place k n =
+      let e : a + k * size + size ≡ a + (k + 1) * size = omega arith in
+      let m : n - k - 1 ≡ n - (k + 1) = omega arith in
+      ap₂ f e m
 
-acls-turn : (l : List ℕ) (a n : ℕ) → 0 < n → acls_at l a n ≡ acl_at l a ∷ acls_at l (a + 368) (n - 1)
+  first_place : (n : ℕ) → f (a + 0 * size) (n - 0) ≡ f a n
+  first_place n = let e : a + 0 * size ≡ a = omega arith in let m : n - 0 ≡ n = omega arith in ap₂ f e m
+
+scopes_one : (l : List ℕ) (a n : ℕ) → 0 < n → scopes_at l a n ≡ scope_at l a ∷ scopes_at l (a + 72) (n - 1)
+unfolding scopes_at
+scopes_one l a zero h = absurd (not-suc-le-zero h)
+scopes_one l a (suc n) h = let e : n ≡ suc n - 1 = omega arith in ap (λ (m : ℕ). scope_at l a ∷ scopes_at l (a + 72) m) e
+
+acls_one : (l : List ℕ) (a n : ℕ) → 0 < n → acls_at l a n ≡ acl_at l a ∷ acls_at l (a + 368) (n - 1)
 unfolding acls_at
-acls-turn l a zero h = absurd (not-suc-le-zero h)
-acls-turn l a (suc n) h = let e : n ≡ suc n - 1 = omega arith in ap (λ (m : ℕ). acl_at l a ∷ acls_at l (a + 368) m) e
+acls_one l a zero h = absurd (not-suc-le-zero h)
+acls_one l a (suc n) h = let e : n ≡ suc n - 1 = omega arith in ap (λ (m : ℕ). acl_at l a ∷ acls_at l (a + 368) m) e
+
+pub scopes-first : (l : List ℕ) (a n : ℕ) → scopes_at l (a + 0 * 72) (n - 0) ≡ scopes_at l a n
+scopes-first l a n = first_place (scopes_at l) 72 a n
+
+pub acls-first : (l : List ℕ) (a n : ℕ) → acls_at l (a + 0 * 368) (n - 0) ≡ acls_at l a n
+acls-first l a n = first_place (acls_at l) 368 a n
+
+pub acls-next : (l : List ℕ) (a k n : ℕ) → acls_at l (a + k * 368 + 368) (n - k - 1) ≡ acls_at l (a + (k + 1) * 368) (n - (k + 1))
+acls-next l a k n = next_place (acls_at l) 368 a k n
+
+scopes-turn : (l : List ℕ) (a k n : ℕ) → k < n → scopes_at l (a + k * 72) (n - k) ≡ scope_at l (a + k * 72) ∷ scopes_at l (a + (k + 1) * 72) (n - (k + 1))
+scopes-turn l a k n h =
+    scopes_one l (a + k * 72) (n - k) (omega arith)
+    ∙ ap (λ (ss : List Scope). scope_at l (a + k * 72) ∷ ss) (next_place (scopes_at l) 72 a k n)
+
+acls-turn : (l : List ℕ) (a k n : ℕ) → k < n → acls_at l (a + k * 368) (n - k) ≡ acl_at l (a + k * 368) ∷ acls_at l (a + (k + 1) * 368) (n - (k + 1))
+acls-turn l a k n h =
+    acls_one l (a + k * 368) (n - k) (omega arith) ∙ ap (λ (rest : List Acl). acl_at l (a + k * 368) ∷ rest) (acls-next l a k n)
 
 no-scopes : (l : List ℕ) (a n : ℕ) → n ≤ 0 → scopes_at l a n ≡ []
 unfolding scopes_at
@@ -83,14 +110,15 @@ scope-test l a =
     ap₂ (λ (t : Bool) (n : ℕ). (t && (leb n 64 && mask_good (get_or l (a + 2) 0 * 256 + get_or l (a + 3) 0))))
     (offset-good (get_or l a 0)) (length-bytes_at l (a + 8) (get_or l (a + 1) 0))
 
-pub scopes-test : (l : List ℕ) (a n : ℕ) → 0 < n
-    → all scope_good (scopes_at l a n) ≡ (scope_good (scope_at l a) && all scope_good (scopes_at l (a + 72) (n - 1)))
+pub scopes-test : (l : List ℕ) (a k n : ℕ) → k < n
+    → all scope_good (scopes_at l (a + k * 72) (n - k))
+    ≡ (scope_good (scope_at l (a + k * 72)) && all scope_good (scopes_at l (a + (k + 1) * 72) (n - (k + 1))))
 unfolding all
-scopes-test l a n h = ap (all scope_good) (scopes-turn l a n h)
+scopes-test l a k n h = ap (all scope_good) (scopes-turn l a k n h)
 
-pub scopes-end : (l : List ℕ) (a n : ℕ) → n ≤ 0 → all scope_good (scopes_at l a n) ≡ true
+pub scopes-end : (l : List ℕ) (a k n : ℕ) → n ≤ k → all scope_good (scopes_at l (a + k * 72) (n - k)) ≡ true
 unfolding all
-scopes-end l a n h = ap (all scope_good) (no-scopes l a n h)
+scopes-end l a k n h = ap (all scope_good) (no-scopes l (a + k * 72) (n - k) (omega arith))
 
 pub acl-test : (l : List ℕ) (a : ℕ) {n : ℕ} → n ≡ get_or l (a + 9) 0
     → acl_good (acl_at l a)
@@ -101,13 +129,14 @@ acl-test l a {n} q =
     (length-bytes_at l (a + 16) (get_or l (a + 8) 0)) (length-scopes_at l (a + 80) (get_or l (a + 9) 0))
     ∙ ap (λ (m : ℕ). (within 1 64 (get_or l (a + 8) 0) && (within 1 4 m && all scope_good (scopes_at l (a + 80) m)))) (sym q)
 
-pub acls-test : (l : List ℕ) (a n : ℕ) → 0 < n → acls_good (acls_at l a n) ≡ (acl_good (acl_at l a) && others l a n)
+pub acls-test : (l : List ℕ) (a k n : ℕ) → k < n
+    → acls_good (acls_at l (a + k * 368) (n - k)) ≡ (acl_good (acl_at l (a + k * 368)) && others l (a + k * 368) (n - k))
 unfolding acls_good acl_at
-acls-test l a n h = ap acls_good (acls-turn l a n h)
+acls-test l a k n h = ap acls_good (acls_one l (a + k * 368) (n - k) (omega arith))
 
-pub acls-end : (l : List ℕ) (a n : ℕ) → n ≤ 0 → acls_good (acls_at l a n) ≡ true
+pub acls-end : (l : List ℕ) (a k n : ℕ) → n ≤ k → acls_good (acls_at l (a + k * 368) (n - k)) ≡ true
 unfolding acls_good
-acls-end l a n h = ap acls_good (no-acls l a n h)
+acls-end l a k n h = ap acls_good (no-acls l (a + k * 368) (n - k) (omega arith))
 
 pub table-test : (l : List ℕ) {n : ℕ} → n ≡ get_or l 8 0 → table_good (table_of l) ≡ (within 1 8 n && acls_good (acls_at l 16 n))
 unfolding table_good table_of
@@ -116,22 +145,29 @@ table-test l q =
     ∙ ap (λ (m : ℕ). (within 1 8 m && acls_good (acls_at l 16 m))) (sym q)
 
 -- ---- the search
-pub find-yes : (i w : ℕ) (l : List ℕ) (a n : ℕ) → 0 < n → word_at l a ≡ w → find_from i w (acls_at l a n) ≡ At i
+pub find-yes : (i w : ℕ) (l : List ℕ) (a k n : ℕ) → k < n → word_at l (a + k * 368) ≡ w
+    → find_from (i + k) w (acls_at l (a + k * 368) (n - k)) ≡ Some (i + k)
 unfolding find_from acl_at
-find-yes i w l a n h e =
-    ap (find_from i w) (acls-turn l a n h)
-    ∙ ap (λ (b : Bool). cond b (At i) (find_from (i + 1) w (acls_at l (a + 368) (n - 1)))) (eq-eqb (word_at l a) w e)
+find-yes i w l a k n h e =
+    ap (find_from (i + k) w) (acls-turn l a k n h)
+    ∙ ap (λ (b : Bool). cond b (Some (i + k)) (find_from (i + k + 1) w (acls_at l (a + (k + 1) * 368) (n - (k + 1))))) (eq-eqb (word_at l (a + k * 368)) w e)
 
-pub find-no : (i w : ℕ) (l : List ℕ) (a n : ℕ) → 0 < n → (word_at l a ≡ w → ⊥)
-    → find_from i w (acls_at l a n) ≡ find_from (i + 1) w (acls_at l (a + 368) (n - 1))
+pub find-no : (i w : ℕ) (l : List ℕ) (a k n : ℕ) → k < n → (word_at l (a + k * 368) ≡ w → ⊥)
+    → find_from (i + k) w (acls_at l (a + k * 368) (n - k)) ≡ find_from (i + (k + 1)) w (acls_at l (a + (k + 1) * 368) (n - (k + 1)))
 unfolding find_from acl_at
-find-no i w l a n h e =
-    ap (find_from i w) (acls-turn l a n h)
-    ∙ ap (λ (b : Bool). cond b (At i) (find_from (i + 1) w (acls_at l (a + 368) (n - 1)))) (ne_eqb (word_at l a) w e)
+find-no i w l a k n h e =
+    let rest = acls_at l (a + (k + 1) * 368) (n - (k + 1)) in
+    let z : i + k + 1 ≡ i + (k + 1) = omega arith in
+    ap (find_from (i + k) w) (acls-turn l a k n h)
+    ∙ ap (λ (b : Bool). cond b (Some (i + k)) (find_from (i + k + 1) w rest)) (ne_eqb (word_at l (a + k * 368)) w e)
+    ∙ ap (λ (j : ℕ). find_from j w rest) z
 
-pub find-end : (i : ℕ) (z : ℕ) (l : List ℕ) (a n : ℕ) → n ≤ 0 → find_from i z (acls_at l a n) ≡ Nobody
+pub find-first : (i w : ℕ) (l : List ℕ) (a n : ℕ) → find_from (i + 0) w (acls_at l (a + 0 * 368) (n - 0)) ≡ find_from i w (acls_at l a n)
+find-first i w l a n = let z : i + 0 ≡ i = omega arith in ap₂ (λ (j : ℕ) (rest : List Acl). find_from j w rest) z (acls-first l a n)
+
+pub find-end : (i w : ℕ) (l : List ℕ) (a k n : ℕ) → n ≤ k → find_from (i + k) w (acls_at l (a + k * 368) (n - k)) ≡ None
 unfolding find_from
-find-end i z l a n h = ap (find_from i z) (no-acls l a n h)
+find-end i w l a k n h = ap (find_from (i + k) w) (no-acls l (a + k * 368) (n - k) (omega arith))
 
 -- ---- what a good record gives
 pub table-count : (l : List ℕ) → table_good (table_of l) ≡ true → get_or l 8 0 ≤ 8
@@ -195,14 +231,14 @@ module _ (l : List ℕ) (i : ℕ) (h : i < length (table_of l).acls) where
       (acls-nth l 16 (get_or l 8 0) i (both-snd (within 1 8 (get_or l 8 0)) _ (sym (table-test l refl) ∙ g)) below-count)
 
 -- ---- one scope after the other
-pub any-turn : (f : Scope → Bool) (l : List ℕ) (a n : ℕ) → 0 < n
-    → any f (scopes_at l a n) ≡ (f (scope_at l a) || any f (scopes_at l (a + 72) (n - 1)))
+pub any-turn : (f : Scope → Bool) (l : List ℕ) (a k n : ℕ) → k < n
+    → any f (scopes_at l (a + k * 72) (n - k)) ≡ (f (scope_at l (a + k * 72)) || any f (scopes_at l (a + (k + 1) * 72) (n - (k + 1))))
 unfolding any
-any-turn f l a n h = ap (any f) (scopes-turn l a n h)
+any-turn f l a k n h = ap (any f) (scopes-turn l a k n h)
 
-pub any-end : (f : Scope → Bool) (l : List ℕ) (a n : ℕ) → n ≤ 0 → any f (scopes_at l a n) ≡ false
+pub any-end : (f : Scope → Bool) (l : List ℕ) (a k n : ℕ) → n ≤ k → any f (scopes_at l (a + k * 72) (n - k)) ≡ false
 unfolding any
-any-end f l a n h = ap (any f) (no-scopes l a n h)
+any-end f l a k n h = ap (any f) (no-scopes l (a + k * 72) (n - k) (omega arith))
 
 -- ---- a part of the bytes
 pub bytes-part : (l : List ℕ) (a n : ℕ) → a + n ≤ length l → bytes_at l a n ≡ take n (drop a l)

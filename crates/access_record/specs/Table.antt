@@ -1,11 +1,9 @@
 -- The table of identities and its rules. Document 01, "The order of judgement", step 8, and refusal 3.
-use Rattle.std.specs.Prelude.{Bool, true, false, not, cond, ◌&&◌, ◌||◌, List, [], ◌∷◌, ℕ, ◌+◌, ◌/◌, ◌%◌, eqb, leb, pos, length, get_or}
+use Rattle.std.specs.Prelude.{Bool, true, false, not, cond, ◌&&◌, ◌||◌, List, [], ◌∷◌, ℕ, ◌+◌, ◌/◌, ◌%◌, eqb, leb, pos, length, get_or, Option, Some, None}
 use Rattle.std.specs.Int.Signed.{lt_z}
-use Rattle.access_record.specs.declared.IdentityPlace.{IdentityPlace}
 use Rattle.base_definitions.specs.Lists.{all, within}
 use Rattle.base_definitions.specs.Bits.{with_bit}
 use Rattle.base_integers.specs.Signed.{signed_of}
-use Rattle.access_record.specs.declared.IdentityPlace.TheVariants.{At, Nobody}
 
 -- ---- the table
 
@@ -63,13 +61,13 @@ unfoldable pub acl_good : Acl → Bool
 acl_good a = within 1 64 (length a.key) && (within 1 4 (length a.scopes) && all scope_good a.scopes)
 
 -- the first ACL that has the identity, counted from i
-unfoldable pub find_from : ℕ → ℕ → List Acl → IdentityPlace
-find_from i w [] = Nobody
-find_from i w (a ∷ rest) = cond (eqb a.identity w) (At i) (find_from (i + 1) w rest)
+unfoldable pub find_from : ℕ → ℕ → List Acl → Option ℕ
+find_from i w [] = None
+find_from i w (a ∷ rest) = cond (eqb a.identity w) (Some i) (find_from (i + 1) w rest)
 
-abbrev pub is_nobody : IdentityPlace → Bool
-is_nobody Nobody = true
-is_nobody (At i) = false
+abbrev pub is_nobody : Option ℕ → Bool
+is_nobody None = true
+is_nobody (Some i) = false
 
 -- each ACL is good, and none after it has its identity
 unfoldable pub acls_good : List Acl → Bool
@@ -82,7 +80,7 @@ table_good t = within 1 8 (length t.acls) && acls_good t.acls
 -- ---- look-up
 
 -- step 2: "Identity in the table"
-unfoldable pub place_of : Table → ℕ → IdentityPlace
+unfoldable pub place_of : Table → ℕ → Option ℕ
 place_of t w = find_from 0 w t.acls
 
 abbrev pub no_acl : Acl

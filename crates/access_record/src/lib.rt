@@ -3,48 +3,32 @@
 
 pub mod offsets;
 
-ghost use Rattle.std.specs.Prelude.{◌≡◌, ◌+◌, ◌<◌, ◌≤◌};
+ghost use Rattle.std.specs.Prelude.{◌≡◌, ◌+◌, ◌≤◌, length};
 ghost use Rattle.base_integers.specs.Signed.{word_of};
-ghost use Rattle.access_record.specs.Record.{half_at, word_at, table_of};
+ghost use Rattle.access_record.specs.Record.{word_at, table_of};
 
-// The device record: the table of identities and the cluster version.
 use crate::offsets::RECORD_BYTES;
-use base_integers::as_u64::wide;
 use base_integers::signed;
 
+// The device record: the table of identities and the cluster version.
 pub type Record = [u8; RECORD_BYTES];
 
-// The place of an identity in the table.
-#[derive(Drop)]
-pub enum IdentityPlace {
-    At(usize),
-    Nobody,
-}
-
-// Numbers are big-endian.
-fn half_at(device: &Record, a: usize) -> u64
-    requires { a + 4 ≤ 2960 }
-    ensures { (result ≡ half_at device.now a) × (result < 4294967296) }
+// The signed number at a place, such as an identity: 64-bit two's complement, big-endian.
+pub fn signed_at(bytes: &[u8], a: usize) -> i64
+    requires { a + 8 ≤ length bytes.now }
+    ensures { word_of result ≡ word_at bytes.now a }
 {
-    wide(device[a]) * 16777216
-        + wide(device[a + 1]) * 65536
-        + wide(device[a + 2]) * 256
-        + wide(device[a + 3])
-}
-
-fn word_at(device: &Record, a: usize) -> u64
-    requires { a + 8 ≤ 2960 }
-    ensures { result ≡ word_at device.now a }
-{
-    half_at(device, a) * 4294967296 + half_at(device, a + 4)
-}
-
-// A signed number, such as an identity.
-pub fn signed_at(device: &Record, a: usize) -> i64
-    requires { a + 8 ≤ 2960 }
-    ensures { word_of result ≡ word_at device.now a }
-{
-    signed(word_at(device, a))
+    let word = u64::from_be_bytes([
+        bytes[a],
+        bytes[a + 1],
+        bytes[a + 2],
+        bytes[a + 3],
+        bytes[a + 4],
+        bytes[a + 5],
+        bytes[a + 6],
+        bytes[a + 7],
+    ]);
+    signed(word)
 }
 
 pub fn cluster_version(device: &Record) -> i64

@@ -7,30 +7,22 @@ ghost use Rattle.base_integers.specs.Signed.{word_of};
 ghost use Rattle.access_record.specs.Record.{flag, word_bytes};
 ghost use Rattle.access_record_bytes.specs.Wrote.{Wrote};
 
-use base_integers::word;
-
 pub fn put_bytes(out: &mut [u8], at: usize, src: &[u8]) -> usize
     requires { at + length src.now ≤ length out.old }
     ensures { Wrote at result src.now out.old out.new }
 {
-    let mut i = 0;
-    while i < src.len() {
-        out[at + i] = src[i];
-        i += 1;
-    }
-    at + i
+    let end = at + src.len();
+    out[at..end].copy_from_slice(src);
+    end
 }
 
 pub fn put_zeros(out: &mut [u8], at: usize, n: usize) -> usize
     requires { at + n ≤ length out.old }
     ensures { Wrote at result (replicate n 0) out.old out.new }
 {
-    let mut i = 0;
-    while i < n {
-        out[at + i] = 0;
-        i += 1;
-    }
-    at + i
+    let end = at + n;
+    out[at..end].fill(0);
+    end
 }
 
 // Filled up with zeros to 64 bytes.
@@ -42,38 +34,17 @@ pub fn put_filled(out: &mut [u8], at: usize, src: &[u8]) -> usize
     put_zeros(out, end, 64 - src.len())
 }
 
-fn word_bytes(w: u64) -> [u8; 8]
-    ensures { result ≡ word_bytes w }
-{
-    let h = w / 4294967296;
-    let l = w % 4294967296;
-    [
-        (h / 16777216) as u8,
-        (h / 65536 % 256) as u8,
-        (h / 256 % 256) as u8,
-        (h % 256) as u8,
-        (l / 16777216) as u8,
-        (l / 65536 % 256) as u8,
-        (l / 256 % 256) as u8,
-        (l % 256) as u8,
-    ]
-}
-
 // A signed number, as its word.
 pub fn put_signed(out: &mut [u8], at: usize, x: i64) -> usize
     requires { at + 8 ≤ length out.old }
     ensures { Wrote at result (word_bytes (word_of x)) out.old out.new }
 {
-    let b = word_bytes(word(x));
-    put_bytes(out, at, &b)
+    put_bytes(out, at, &x.to_be_bytes())
 }
 
 // A flag as its byte.
 pub fn flag_of(t: bool) -> u8
     ensures { result ≡ flag t }
 {
-    if t {
-        return 1;
-    }
-    0
+    u8::from(t)
 }

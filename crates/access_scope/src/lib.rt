@@ -20,10 +20,7 @@ pub fn holds(mask: usize, permission: u8) -> bool
 pub fn allows(tls: u8, protected: bool) -> bool
     ensures { result ≡ (not (not (eqb tls 0)) || protected) }
 {
-    if protected {
-        return true;
-    }
-    tls == 0
+    protected || tls == 0
 }
 
 // The value of n bytes at a is empty, or stands in the key at exactly the offset. Keys that differ mostly differ at their ends: the last byte is

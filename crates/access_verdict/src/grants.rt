@@ -57,14 +57,13 @@ pub fn acl_grants(
     ensures { result ≡ any (grants counts key.now protected permission) (acl_at device.now (16 + place * 368)).scopes }
 {
     let a = ACLS + place * ACL_BYTES;
-    let mut at = a + SCOPES;
-    let mut left = wide(device[a + SCOPE_COUNT]);
-    while 0 < left {
+    let scopes = a + SCOPES;
+    let n = wide(device[a + SCOPE_COUNT]);
+    for k in 0..n {
+        let at = scopes + k * SCOPE_BYTES;
         if scope_grants(device, at, counts, key, protected, permission) {
             return true;
         }
-        at += SCOPE_BYTES;
-        left -= 1;
     }
     false
 }

@@ -1,2 +1,2 @@
-pub mod Agree
-pub mod AgreeLaws
+pub mod Differs
+pub mod DiffersLaws

@@ -12,7 +12,7 @@ ghost use Rattle.bench_fields.specs.Held.{said, held, left, taken_out};
 
 use base_integers::word;
 use fields_decode::nested::reads;
-use fields_lookup::parts::{Num, Part, Signed};
+use fields_lookup::parts::Part;
 use fields_schema::Kind;
 use request_command::{Request, read_request};
 use request_numbers::{number_or, signed_or};
@@ -29,7 +29,7 @@ pub extern "C" fn fields_reads(s: &[u8]) -> u32
 }
 
 // A number, if the message is there that it would stand in.
-fn number_in(there: bool, n: Num) -> u64
+fn number_in(there: bool, n: Option<u64>) -> u64
     ensures { result ≡ cond there (or_else 0 (num_view n)) 0 }
 {
     if there {
@@ -39,7 +39,7 @@ fn number_in(there: bool, n: Num) -> u64
 }
 
 // The same of a signed number, as its word.
-fn signed_in(there: bool, n: Signed) -> u64
+fn signed_in(there: bool, n: Option<i64>) -> u64
     ensures { result ≡ cond there (or_else 0 (signed_view n)) 0 }
 {
     if there {

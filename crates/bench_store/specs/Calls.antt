@@ -1,10 +1,9 @@
 -- What the calls for the measurements say and leave: of a bad store a number of its own, and the store as it was.
-use Rattle.std.specs.Prelude.{cond, List, ℕ, ◌-◌, ◌^◌}
+use Rattle.std.specs.Prelude.{Bool, true, false, cond, List, ℕ, ◌-◌, ◌^◌}
 use Rattle.store_block.specs.Entry.{Entry}
-use Rattle.store_layout.specs.declared.PutAnswer.{PutAnswer}
-use Rattle.store_layout.specs.declared.PutAnswer.TheVariants.{Stored, Full, Unfit}
-use Rattle.store_layout.specs.declared.DeleteAnswer.{DeleteAnswer}
-use Rattle.store_layout.specs.declared.DeleteAnswer.TheVariants.{Deleted, Missing}
+use Rattle.store_layout.specs.Entries.{PutAnswer}
+use Rattle.std.specs.Prelude.{Ok, Err}
+use Rattle.store_layout.specs.declared.PutError.TheVariants.{Full, Unfit}
 use Rattle.store_layout.specs.Store.{entries_of, store_good}
 use Rattle.store_layout.specs.Entries.{find_in, place_of, put_answer, put_store, delete_answer, delete_store}
 
@@ -21,13 +20,13 @@ abbrev pub left : ℕ → List ℕ → Left
 left n l = record { number = n; store = l }
 
 abbrev pub put_number : PutAnswer → ℕ
-put_number Stored = 0
-put_number Full = 1
-put_number Unfit = 2
+put_number (Ok tt) = 0
+put_number (Err Full) = 1
+put_number (Err Unfit) = 2
 
-abbrev pub delete_number : DeleteAnswer → ℕ
-delete_number Deleted = 0
-delete_number Missing = 1
+abbrev pub delete_number : Bool → ℕ
+delete_number true = 0
+delete_number false = 1
 
 abbrev pub put_of : List ℕ → Entry → Left
 put_of l e = cond (store_good l) (left (put_number (put_answer l e)) (put_store l e)) (left 3 l)

@@ -1,13 +1,11 @@
 -- The ways through each call.
-use Rattle.std.specs.Prelude.{◌≡◌, refl, Bool, true, false, cond, List, ℕ, ◌-◌, ◌^◌, ◌≤◌, leb, length}
+use Rattle.std.specs.Prelude.{◌≡◌, refl, Bool, true, false, cond, List, ℕ, ◌-◌, ◌^◌, ◌≤◌, leb, length, Result}
 use Rattle.std.proofs.Common.{sym, ap, ap₂, ◌∙◌, arith, leb-true, leb-false}
 use Rattle.store_block.specs.Decides.{Decides}
 use Rattle.store_block.specs.DecidesLaws.{says-yes, says-no}
 use Rattle.store_block.specs.Entry.{Entry, entry, Sized}
 use Rattle.store_block.specs.BlockLaws.{sized}
-use Rattle.store_layout.specs.declared.KeyPlace.{KeyPlace}
-use Rattle.store_layout.specs.declared.PutAnswer.{PutAnswer}
-use Rattle.store_layout.specs.declared.DeleteAnswer.{DeleteAnswer}
+use Rattle.store_layout.specs.Entries.{PutAnswer}
 use Rattle.store_layout.specs.Store.{entries_of, store_good, Good}
 use Rattle.store_layout.proofs.CheckLaws.{store-decides}
 use Rattle.store_layout.specs.Entries.{Sought, find_in, place_of, put_answer, put_store, delete_answer, delete_store}
@@ -33,7 +31,7 @@ module _ (l : List ℕ) where
   pub not-searched : (k : List ℕ) → store_good l ≡ false → 2 ^ 64 - 1 ≡ find_of l k
   not-searched k h = chosen (place_of (find_in k (entries_of l))) (2 ^ 64 - 1) h
 
-  pub searched : (k : List ℕ) → store_good l ≡ true → {r : KeyPlace} → Sought l k r → (x : KeyPlace) → r ≡ x → place_of x ≡ find_of l k
+  pub searched : (k : List ℕ) → store_good l ≡ true → {r : Result ℕ ℕ} → Sought l k r → (x : Result ℕ ℕ) → r ≡ x → place_of x ≡ find_of l k
   searched k h s x e = ap place_of (sym e ∙ s.same (good-store h)) ∙ chosen (place_of (find_in k (entries_of l))) (2 ^ 64 - 1) h
 
   -- ---- put
@@ -53,5 +51,5 @@ module _ (l : List ℕ) where
   pub not-deleted : (k : List ℕ) → store_good l ≡ false → left 3 l ≡ delete_of l k
   not-deleted k h = chosen (left (delete_number (delete_answer l k)) (delete_store l k)) (left 3 l) h
 
-  pub delete-as : (k : List ℕ) → store_good l ≡ true → {r : DeleteAnswer} {m : List ℕ} → r ≡ delete_answer l k → m ≡ delete_store l k → (x : DeleteAnswer) → r ≡ x → left (delete_number x) m ≡ delete_of l k
-  delete-as k h q p x y = ap₂ (λ (z : DeleteAnswer) (m : List ℕ). left (delete_number z) m) (sym y ∙ q) p ∙ chosen (left (delete_number (delete_answer l k)) (delete_store l k)) (left 3 l) h
+  pub delete-as : (k : List ℕ) → store_good l ≡ true → {r : Bool} {m : List ℕ} → r ≡ delete_answer l k → m ≡ delete_store l k → (x : Bool) → r ≡ x → left (delete_number x) m ≡ delete_of l k
+  delete-as k h q p x y = ap₂ (λ (z : Bool) (m : List ℕ). left (delete_number z) m) (sym y ∙ q) p ∙ chosen (left (delete_number (delete_answer l k)) (delete_store l k)) (left 3 l) h

@@ -7,7 +7,7 @@ ghost use Rattle.store_block.specs.Entry.{entry, Sized};
 ghost use Rattle.store_layout.specs.Store.{store_good};
 ghost use Rattle.bench_store.specs.Calls.{find_of, left, put_of, delete_of};
 
-use store_layout::{DeleteAnswer, KeyPlace, PutAnswer};
+use store_layout::PutError;
 
 #[unsafe(no_mangle)]
 pub extern "C" fn rt_check(store: &[u8]) -> bool
@@ -25,8 +25,8 @@ pub extern "C" fn rt_find(store: &[u8], key: &[u8]) -> usize
         return 18446744073709551615;
     }
     match store_find::find(store, key) {
-        KeyPlace::At(i) => i,
-        KeyPlace::Gap(i) => i,
+        Ok(i) => i,
+        Err(i) => i,
     }
 }
 
@@ -66,9 +66,9 @@ pub extern "C" fn rt_put(
         return 2;
     }
     match store_write::put::put(store, key, version, tag, value, algorithm) {
-        PutAnswer::Stored => 0,
-        PutAnswer::Full => 1,
-        PutAnswer::Unfit => 2,
+        Ok(()) => 0,
+        Err(PutError::Full) => 1,
+        Err(PutError::Unfit) => 2,
     }
 }
 
@@ -80,8 +80,9 @@ pub extern "C" fn rt_delete(store: &mut [u8], key: &[u8]) -> u32
     if !store_check::check(store) {
         return 3;
     }
-    match store_write::delete::delete(store, key) {
-        DeleteAnswer::Deleted => 0,
-        DeleteAnswer::Missing => 1,
+    if store_write::delete::delete(store, key) {
+        0
+    } else {
+        1
     }
 }

@@ -12,11 +12,20 @@ use Rattle.protocol_connection.specs.ConnectionOf.{connection_of}
 use Rattle.c_connection.specs.Layout.{connection_at, becomes}
 use Rattle.c_connection.specs.FollowsLaws.{answers-leave}
 use Rattle.c_connection.specs.Follows.{Leaves}
-use Rattle.device_response.specs.declared.Response.{Response}
-use Rattle.device_response.specs.declared.Response.TheVariants.{OutShort, StoreBad, DeviceBad, Closed, More, ReadingsBad, Answered}
-use Rattle.device_response.specs.Called.{Called, refusing, answering, called, afterwards}
+use Rattle.std.specs.Prelude.{Ok, Err}
+use Rattle.device_response.specs.declared.Refusal.{Refusal}
+use Rattle.device_response.specs.declared.Refusal.TheVariants.{OutShort, StoreBad, DeviceBad, Closed, More, ReadingsBad}
+use Rattle.device_response.specs.Called.{Called, refusing, answering, number_of, Response, called, afterwards}
 use Rattle.c_abi.specs.Calls.{Left, left, leaves, answer_call}
 use Rattle.c_calls.specs.Notes.{Noted, notes}
+
+some-number : (r : Refusal) → 0 < number_of r
+some-number OutShort = omega arith
+some-number StoreBad = omega arith
+some-number DeviceBad = omega arith
+some-number Closed = omega arith
+some-number More = omega arith
+some-number ReadingsBad = omega arith
 
 module _ (store device connection readings input out counts : List ℕ) {c : state.Connection} (held : c ≡ connection_at connection) where
   abbrev outcome : Outcome State
@@ -52,13 +61,8 @@ module _ (store device connection readings input out counts : List ℕ) {c : sta
     whole n = left n.number store' device' n.connection out' n.counts
 
     by-case : (r : Response) → Same (called c readings r store' device' out') → whole (notes connection counts r) ≡ leaves store device connection out counts outcome
-    by-case OutShort = refusal 1 (omega arith)
-    by-case StoreBad = refusal 2 (omega arith)
-    by-case DeviceBad = refusal 3 (omega arith)
-    by-case Closed = refusal 4 (omega arith)
-    by-case More = refusal 5 (omega arith)
-    by-case ReadingsBad = refusal 7 (omega arith)
-    by-case (Answered written taken d) = reply written taken (connection_of d)
+    by-case (Err r) = refusal (number_of r) (some-number r)
+    by-case (Ok a) = reply a.written a.taken (connection_of a.connection)
 
     pub answering-call : {n : Noted} (r : Response) → Same (called c readings r store' device' out') → n ≡ notes connection counts r
         → whole n ≡ answer_call store device connection readings input out counts

@@ -7,17 +7,17 @@ ghost use Rattle.c_calls.specs.Notes.{noted, notes};
 
 use access_record::Record;
 use c_connection::layout::Bytes;
-use device_format::Formatted;
-use device_response::Response;
+use device_format::FormatError;
+use device_response::{Answered, Refusal};
 
 // 0 made; or refusal 2 or 6, and nothing is written.
 pub fn format(store: &mut [u8], device: &mut Record, key: &[u8]) -> u32
     ensures { Told result store.old device.old key.now store.new device.new }
 {
     match device_format::format(store, device, key) {
-        Formatted::Made => 0,
-        Formatted::StoreBad => 2,
-        Formatted::KeyBad => 6,
+        Ok(()) => 0,
+        Err(FormatError::StoreBad) => 2,
+        Err(FormatError::KeyBad) => 6,
     }
 }
 
@@ -29,23 +29,14 @@ pub fn connect(connection: &mut Bytes, number: i64, protected: u8)
 }
 
 // The number of a response; where it is an answer, what changed of the connection, and the counts.
-pub fn note(connection: &mut Bytes, counts: &mut [u64; 2], r: Response) -> u32
+pub fn note(connection: &mut Bytes, counts: &mut [u64; 2], r: Result<Answered, Refusal>) -> u32
     ensures { noted result connection.new counts.new ≡ notes connection.old counts.old r }
 {
     match r {
-        Response::OutShort => 1,
-        Response::StoreBad => 2,
-        Response::DeviceBad => 3,
-        Response::Closed => 4,
-        Response::More => 5,
-        Response::ReadingsBad => 7,
-        Response::Answered {
-            written,
-            taken,
-            connection: after,
-        } => {
-            *counts = [taken as u64, written as u64];
-            c_connection::write::update(connection, after);
+        Err(refusal) => refusal.number(),
+        Ok(answered) => {
+            *counts = [answered.taken as u64, answered.written as u64];
+            c_connection::write::update(connection, answered.connection);
             0
         }
     }

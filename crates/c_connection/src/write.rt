@@ -5,8 +5,9 @@ ghost use Rattle.fields_schema.specs.Tree.{guard};
 ghost use Rattle.protocol_connection.specs.ConnectionOf.{connection_of};
 ghost use Rattle.c_connection.specs.Layout.{connection_at, connected_bytes, is_last, heard_bytes, hears, closes, becomes};
 
-use crate::layout::{Bytes, signed_at};
+use crate::layout::Bytes;
 use crate::offsets::{CLOSED, LAST, PROTECTED, SEEN};
+use access_record::signed_at;
 use access_record_bytes::{flag_of, put_signed};
 use protocol_connection::Connection;
 

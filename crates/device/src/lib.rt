@@ -13,8 +13,8 @@ ghost use Rattle.reply_send.specs.Answers.{before, after};
 ghost use Rattle.device_response.specs.Called.{AnswersOrRefuses, AnsweringCall};
 
 use access_record::Record;
-pub use device_format::{Formatted, format};
-pub use device_response::Response;
+pub use device_format::{FormatError, format};
+pub use device_response::{Answered, Refusal};
 use protocol::status::CONNECTION_TERMINATED;
 use protocol_connection::Connection;
 pub use protocol_connection::connect;
@@ -29,28 +29,27 @@ fn answer_frame(
     connection: Connection,
     input: &[u8],
     out: &mut [u8],
-) -> Response
+) -> Result<Answered, Refusal>
     requires { (4096 ≤ length out.old) × Good store.old × (table_good (table_of device.old) ≡ true) }
     ensures { AnswersOrRefuses (λ s. serve box s (length input.now) (frame_of input.now))
         (before store device readings (connection_of connection)) out result (after store device readings (connection_of connection)) }
 {
     match request_frame::frame_at(input) {
-        Framed::More => Response::More,
+        Framed::More => Err(Refusal::More),
         Framed::Closes => {
             if !log_readings::good(readings) {
-                return Response::ReadingsBad;
+                return Err(Refusal::ReadingsBad);
             }
             let r = reply_send::close::close(connection, out, CONNECTION_TERMINATED);
-            let connection = r.connection;
-            Response::Answered {
+            Ok(Answered {
                 written: r.written,
                 taken: input.len(),
-                connection,
-            }
+                connection: r.connection,
+            })
         }
         Framed::Whole { message, value } => {
             if !log_readings::good(readings) {
-                return Response::ReadingsBad;
+                return Err(Refusal::ReadingsBad);
             }
             let m = 9 + message;
             let v = m + value;
@@ -63,12 +62,11 @@ fn answer_frame(
                 &input[m..v],
                 out,
             );
-            let connection = r.connection;
-            Response::Answered {
+            Ok(Answered {
                 written: r.written,
                 taken: v,
-                connection,
-            }
+                connection: r.connection,
+            })
         }
     }
 }
@@ -81,22 +79,21 @@ pub fn answer(
     connection: Connection,
     input: &[u8],
     out: &mut [u8],
-) -> Response
+) -> Result<Answered, Refusal>
     ensures { AnsweringCall input.now
         (before store device readings (connection_of connection)) out result (after store device readings (connection_of connection)) }
 {
     if out.len() < 4096 {
-        return Response::OutShort;
+        return Err(Refusal::OutShort);
     }
     if !store_check::check(store) {
-        return Response::StoreBad;
+        return Err(Refusal::StoreBad);
     }
     if !access_check::record_good(device) {
-        return Response::DeviceBad;
+        return Err(Refusal::DeviceBad);
     }
-    let closed = connection.closed;
-    if closed {
-        return Response::Closed;
+    if connection.closed {
+        return Err(Refusal::Closed);
     }
     answer_frame(store, device, readings, connection, input, out)
 }

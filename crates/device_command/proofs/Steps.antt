@@ -1,4 +1,5 @@
 -- Steps 3 to 10, exit by exit: the result of each is what the definitions say, and what was sent is the reply with it.
+use Rattle.std.specs.Prelude.{None, Some, unwrap_or}
 use mathlib.Core.Path.{◌≡◌, refl, sym, ap, subst, ◌∙◌}
 use mathlib.Core.Bool.{Bool, true, false, cond}
 use mathlib.Core.List.{List, []}
@@ -6,23 +7,21 @@ use mathlib.Core.Option.{Option, none, some}
 use Prim.Native.Nat.{ℕ}
 use lib.Dec.{eqb}
 use borrow.Author.Tests.{eq-eqb, ne_eqb}
-use lib.IntN.{ℤ}
+use lib.IntN.{ℤ, pos}
+use Rattle.std.specs.Prelude as rust
+use Rattle.std.specs.Option.{is_some}
 use Rattle.base_integers.specs.Signed.{word_of}
 use Rattle.fields_schema.specs.Tree.{Tree, guard, map_o}
 use Rattle.access_record.specs.Table as access
 use Rattle.access_record.specs.Table.{place_of}
-use Rattle.access_record.specs.declared.IdentityPlace.TheVariants.{At}
 use Rattle.fields_lookup.specs.Views.{signed_view}
 use Rattle.protocol.specs.declared.Choice.{Choice}
-use Rattle.protocol.specs.declared.Asked.{Asked}
-use Rattle.protocol.specs.declared.Asked.TheVariants as asked
-use Rattle.protocol.specs.declared.Asked.TheVariants.{NotBuilt}
 use Rattle.protocol.specs.State.{State, Connection, accepted, with_sequence, lent, table}
 use Rattle.protocol.specs.Command as c
 use Rattle.base_definitions.specs.Options.{or_else}
 use Rattle.protocol.specs.Command.{command_of}
 use Rattle.protocol.specs.MessageType.{INVALID_MESSAGE_TYPE}
-use Rattle.protocol.specs.Operation.{asked_by, reply_type}
+use Rattle.protocol.specs.Operation.{Asked, asked_by, reply_type}
 use Rattle.protocol.specs.Judge.{Result, bare, fails, step7, step10, judge}
 use Rattle.protocol.specs.Reply.{signed_by, command_tree}
 use Rattle.protocol.specs.Reading.{decoded}
@@ -41,6 +40,7 @@ use Rattle.judge_permission.specs.PermissionLaws.{asked-numbered}
 use Rattle.judge_admission.specs.Admission.{admission}
 use Rattle.judge_admission.specs.AdmissionLaws.{served-by}
 use Rattle.reply_command.specs.declared.ReplyTo.{ReplyTo}
+use Rattle.reply_command.specs.Repeated.{ack_of}
 use Rattle.reply_send.specs.Sent.{Sent, replied}
 use Rattle.reply_send.specs.SentLaws.{sent-as}
 
@@ -66,10 +66,10 @@ module _ (s : State) (acl : access.Acl) (x : Choice) (b : c.Body) (v : List ℕ)
 -- ---- step 7
 
 module _ (s : State) (acl : access.Acl) (b : c.Body) (v : List ℕ) (a : ReplyTo) (by : List ℕ) (n : ℕ) (out out' : List ℕ) (y : Asked) (type : Option ℕ) (f : y ≡ asked_by type) where
-  pub built : (x : Choice) → y ≡ asked.Request x → (after : State) → Sent (replied a by (served s acl x b v)) n out out' after → Sent (replied a by (rest s acl type b v)) n out out' after
+  pub built : (x : Choice) → y ≡ Some x → (after : State) → Sent (replied a by (served s acl x b v)) n out out' after → Sent (replied a by (rest s acl type b v)) n out out' after
   built x e after g = sent-as a by (ap (λ (y : Asked). step7 s y (λ x. served s acl x b v)) (sym e ∙ f)) g
 
-  pub not-built : y ≡ NotBuilt → Sent (replied a by (fails s 16)) n out out' s → Sent (replied a by (rest s acl type b v)) n out out' s
+  pub not-built : y ≡ None → Sent (replied a by (fails s 16)) n out out' s → Sent (replied a by (rest s acl type b v)) n out out' s
   not-built e g = sent-as a by (ap (λ (y : Asked). step7 s y (λ x. served s acl x b v)) (sym e ∙ f)) g
 
 -- ---- steps 4 to 6
@@ -89,6 +89,11 @@ accepted-one s (some h) b q e f = go h.connection_id h.sequence b e f
     go (some i) none b e f = never (cc)
     go (some i) (some p) true e f = cc
     go (some i) (some p) false e f = never (cc)
+
+-- a signed number by whether it is there and what stands for it
+viewed : (n : rust.Option ℤ) → guard (is_some n) (word_of (unwrap_or n (pos 0))) ≡ signed_view n
+viewed None = refl
+viewed (Some v) = refl
 
 module _ {x : Request} {h : Heading} (k : HeadingOf x h) (s : State) where
   abbrev Head : Option c.Header
@@ -119,17 +124,19 @@ module _ {x : Request} {h : Heading} (k : HeadingOf x h) (s : State) where
   bits = ap asked_numbered asked-as ∙ asked-numbered (type_in Head)
 
   -- what the reply repeats: an identity, the connection's number and the sequence
-  module _ (i j l : ℤ) (identity : ℕ) (ei : word_of i ≡ identity) (ej : word_of j ≡ s.connection.number) (el : word_of l ≡ word_of h.sequence.value)
+  module _ (i j l : ℤ) (identity : ℕ) (ei : word_of i ≡ identity) (ej : word_of j ≡ s.connection.number) (el : word_of l ≡ word_of (unwrap_or h.sequence (pos 0)))
       (r : ℕ) (u : r ≡ reply_type h.asked) (by : List ℕ) (b : c.Body) (acl : access.Acl) (w : List ℕ) (code n : ℕ) (out out' : List ℕ) (f : code ≡ header_fault s Head) where
-    abbrev To : ReplyTo
-    To =
+    abbrev to_of : rust.Option ℤ → ReplyTo
+    to_of sequence =
         record {
           identity = i;
           connection = j;
-          sequenced = h.sequence.has;
-          sequence = l;
+          sequence = sequence;
           kind = r;
         }
+
+    abbrev To : ReplyTo
+    To = to_of h.sequence
 
     abbrev Said : c.Command
     Said = record { header = Head; body = b }
@@ -137,15 +144,23 @@ module _ {x : Request} {h : Heading} (k : HeadingOf x h) (s : State) where
     abbrev Rest : ℕ → Result
     Rest p = rest (accepted s p) acl (type_in Head) b w
 
-    repeated : guard h.sequence.has (word_of l) ≡ sequence_of Head
-    repeated = ap (guard h.sequence.has) el ∙ sequence-of
+    repeated : guard (is_some h.sequence) (word_of l) ≡ sequence_of Head
+    repeated = ap (guard (is_some h.sequence)) el ∙ viewed h.sequence ∙ sequence-of
+
+    -- the sequence, where the request has one
+    acked-by : (n : rust.Option ℤ) → ack_of (to_of n) ≡ signed_view n
+    acked-by None = refl
+    acked-by (Some v) = refl
+
+    acked : ack_of To ≡ sequence_of Head
+    acked = acked-by h.sequence ∙ sequence-of
 
     -- what is sent by what the code repeats is the reply to the command
     sent-command : (y : Result) (after : State) → y ≡ judge s acl Said w → Sent (replied To by y) n out out' after → Sent (command_reply s identity by Said (judge s acl Said w)) n out out' after
     sent-command y after e g =
         let v = u ∙ ap reply_type (k.asked ∙ ap asked_by (of-header type_of (header_view x.header) refl x.headed)) in
         subst (λ (y : Reply State). Sent y n out out' after)
-        (λ t. reply (signed_by (ei t) by (command_tree (ej t) (repeated t) (v t) (e t).body (e t).code) (e t).value) (e t).state) g
+        (λ t. reply (signed_by (ei t) by (command_tree (ej t) (acked t) (v t) (e t).body (e t).code) (e t).value) (e t).state) g
 
     pub refused : (code ≡ 0 → ⊥) → Sent (replied To by (fails s code)) n out out' s → Sent (command_reply s identity by Said (judge s acl Said w)) n out out' s
     refused z g = sent-command (fails s code) s (failed s (Rest (sequence_heard Head)) code f z ∙ sym (judge-by s acl Said w)) g
@@ -154,7 +169,7 @@ module _ {x : Request} {h : Heading} (k : HeadingOf x h) (s : State) where
         → Sent (replied To by (Rest (word_of l))) n out out' (lent store device s.readings (with_sequence s.connection (word_of l))) → Sent (command_reply s identity by Said (judge s acl Said w)) n out out' (lent store device s.readings after)
     accepts store device after z e g =
         let y = sym f ∙ z in
-        let q = accepted-one s Head h.sequence.has (word_of l) repeated y in
+        let q = accepted-one s Head (is_some h.sequence) (word_of l) repeated y in
         sent-command (Rest (word_of l)) (lent store device s.readings after) (ap Rest (sym q) ∙ passed s (Rest (sequence_heard Head)) y ∙ sym (judge-by s acl Said w))
         (subst (λ (x : Connection). Sent (replied To by (Rest (word_of l))) n out out' (lent store device s.readings x)) (sym e) g)
 
@@ -171,7 +186,7 @@ module _ (s : State) (i : ℕ) (by : List ℕ) (v : List ℕ) (o : Option Tree) 
       go none e = subst (λ (y : Reply State). Sent y n out out' s) (λ t. invalid_to (ea t) (eb t)) g
       go (some t) e = never (cc)
 
-  pub decodes : ok ≡ true → (place : ℕ) → place_of (table s) i ≡ At place → (after : State)
+  pub decodes : ok ≡ true → (place : ℕ) → place_of (table s) i ≡ Some place → (after : State)
       → Sent (command_reply s i by x (judge s (access.acl_of (table s) place) x v)) n out out' after → Sent (respond box s v (decoded i by o)) n out out' after
   unfolding decide
   decodes f place p after g = go o (ap (λ (b : Bool). guard b x) (sym f) ∙ e)

@@ -1,12 +1,11 @@
 // Steps 3 to 10: what comes of a command that was signed right.
 #![tactic(auto)]
 
-ghost use Rattle.std.specs.Prelude.{◌≡◌, true, cond, ℕ, ◌≤◌, length};
+ghost use Rattle.std.specs.Prelude.{◌≡◌, true, cond, ℕ, ◌≤◌, length, Some};
 ghost use Rattle.std.proofs.Math.Option.{Option, none, some};
 ghost use Rattle.store_layout.specs.Store.{Good};
 ghost use Rattle.log_readings.specs.Lent.{readings_good};
 ghost use Rattle.access_record.specs.Table.{acl_of, place_of, table_good};
-ghost use Rattle.access_record.specs.declared.IdentityPlace.TheVariants.{At};
 ghost use Rattle.access_record.specs.Record.{table_of, Placed};
 ghost use Rattle.base_integers.specs.Signed.{word_of};
 ghost use Rattle.fields_lookup.specs.Views.{num_view, signed_view};
@@ -25,11 +24,10 @@ ghost use Rattle.reply_send.specs.Sent.{replied};
 ghost use Rattle.reply_send.specs.Answers.{Answers, before, after};
 
 use access_record::Record;
-use fields_lookup::parts::{Num, Signed};
 use judge_header::header::header_fault;
 use judge_header::message_type::{asked_by, reply_type};
 use perform::Job;
-use protocol::Asked;
+use protocol::Choice;
 use protocol::message_type::INVALID_MESSAGE_TYPE;
 use protocol::status::INVALID_REQUEST;
 use protocol_connection::Connection;
@@ -58,9 +56,9 @@ struct Received {
 #[derive(Drop)]
 struct Heading {
     version: i64,
-    id: Signed,
-    sequence: Signed,
-    asked: Asked,
+    id: Option<i64>,
+    sequence: Option<i64>,
+    asked: Option<Choice>,
 }
 
 // A request that passed steps 4 to 6: for whom (the place of the ACL, and whether the connection is protected), what it asks for, with what body, and to whom
@@ -69,7 +67,7 @@ struct Heading {
 struct Accepted {
     acl: usize,
     protected: bool,
-    asked: Asked,
+    asked: Option<Choice>,
     body: Body,
     reply_to: ReplyTo,
 }
@@ -93,10 +91,9 @@ fn admit_and_perform(
         (rest s (acl_of (table s) accepted.acl) type body value.now))
         (before store device readings c) out result (after store device readings c) }
 {
-    let asked = accepted.asked;
-    match asked {
-        Asked::Request(choice) => {
-            let refusal = judge_admission::admit(
+    match accepted.asked {
+        Some(choice) => {
+            match judge_admission::admit(
                 choice,
                 device,
                 accepted.acl,
@@ -104,56 +101,45 @@ fn admit_and_perform(
                 command,
                 accepted.body,
                 value.len(),
-            );
-            if refusal != 0 {
-                return status(out, signing_key, accepted.reply_to, refusal);
+            ) {
+                Err(failure) => status(out, signing_key, accepted.reply_to, failure.number()),
+                Ok(()) => {
+                    let job = Job {
+                        operation: choice.operation,
+                        body: accepted.body,
+                        acl: accepted.acl,
+                        protected: accepted.protected,
+                        reply_to: accepted.reply_to,
+                    };
+                    perform::perform(
+                        store,
+                        device,
+                        readings,
+                        job,
+                        command,
+                        value,
+                        out,
+                        signing_key,
+                    )
+                }
             }
-            let operation = choice.operation;
-            let body = accepted.body;
-            let reply_to = accepted.reply_to;
-            let job = Job {
-                operation,
-                body,
-                acl: accepted.acl,
-                protected: accepted.protected,
-                reply_to,
-            };
-            perform::perform(
-                store,
-                device,
-                readings,
-                job,
-                command,
-                value,
-                out,
-                signing_key,
-            )
         }
-        Asked::NotBuilt => status(out, signing_key, accepted.reply_to, INVALID_REQUEST),
+        None => status(out, signing_key, accepted.reply_to, INVALID_REQUEST),
     }
 }
 
 // A signed number of a header, if there is a header.
-fn in_header(headed: bool, n: Signed) -> Signed
+fn in_header(headed: bool, n: Option<i64>) -> Option<i64>
     ensures { signed_view result ≡ cond headed (signed_view n) none }
 {
-    if headed {
-        return n;
-    }
-    Signed {
-        has: false,
-        value: 0,
-    }
+    if headed { n } else { None }
 }
 
 // What a messageType asks for, if there is a header.
-fn asked_in(headed: bool, n: Num) -> Asked
+fn asked_in(headed: bool, n: Option<u64>) -> Option<Choice>
     ensures { result ≡ asked_by (cond headed (num_view n) none) }
 {
-    if headed {
-        return asked_by(n.has, n.value);
-    }
-    Asked::NotBuilt
+    if headed { asked_by(n) } else { None }
 }
 
 // What the header of a request says; one that is absent has none of it, and asks for nothing.
@@ -190,41 +176,41 @@ fn answer_request(
     let connection = sender.connection;
     let heading = heading_of(received.request);
     let sequence = heading.sequence;
+    let number = sequence.unwrap_or(0);
     let asked = heading.asked;
     let reply_to = ReplyTo {
         identity: sender.identity,
         connection: connection.number,
-        sequenced: sequence.has,
-        sequence: sequence.value,
+        sequence,
         kind: reply_type(asked),
     };
-    let code = header_fault(device, heading.version, heading.id, sequence, connection);
-    if code != 0 {
-        return Replied {
-            written: status(out, signing_key, reply_to, code),
+    match header_fault(device, heading.version, heading.id, sequence, connection) {
+        Err(failure) => Replied {
+            written: status(out, signing_key, reply_to, failure.number()),
             connection,
-        };
-    }
-    let body = received.request.body;
-    let accepted = Accepted {
-        acl: sender.acl,
-        protected: connection.protected,
-        asked,
-        body,
-        reply_to,
-    };
-    Replied {
-        written: admit_and_perform(
-            store,
-            device,
-            readings,
-            accepted,
-            command,
-            value,
-            out,
-            signing_key,
-        ),
-        connection: protocol_connection::accept(connection, sequence.value),
+        },
+        Ok(()) => {
+            let accepted = Accepted {
+                acl: sender.acl,
+                protected: connection.protected,
+                asked,
+                body: received.request.body,
+                reply_to,
+            };
+            Replied {
+                written: admit_and_perform(
+                    store,
+                    device,
+                    readings,
+                    accepted,
+                    command,
+                    value,
+                    out,
+                    signing_key,
+                ),
+                connection: protocol_connection::accept(connection, number),
+            }
+        }
     }
 }
 
@@ -240,7 +226,7 @@ pub fn answer_command(
     signing_key: &[u8],
 ) -> Replied
     requires { (4096 ≤ length out.old) × (length signing_key.now ≤ 64) × Good store.old × (table_good (table_of device.old) ≡ true)
-        × (place_of (table_of device.old) (word_of sender.identity) ≡ At sender.acl) × (readings_good readings.now ≡ true) }
+        × (place_of (table_of device.old) (word_of sender.identity) ≡ Some sender.acl) × (readings_good readings.now ≡ true) }
     ensures { let reading = decoded (word_of sender.identity) signing_key.now (decodes command.now) in
         Answers (λ s. respond box s value.now reading)
         (before store device readings (connection_of sender.connection)) out result.written (after store device readings (connection_of result.connection)) }
@@ -264,8 +250,7 @@ pub fn answer_command(
     let reply_to = ReplyTo {
         identity: sender.identity,
         connection: connection.number,
-        sequenced: false,
-        sequence: 0,
+        sequence: None,
         kind: INVALID_MESSAGE_TYPE,
     };
     Replied {

@@ -1,5 +1,5 @@
 -- From the contract of the answering call to what its host finds, and to the customer's laws.
-use Rattle.std.specs.Prelude.{ℕ, ◌^◌, ◌<◌, ◌≡◌, refl, List, ◌++◌, length, take, drop}
+use Rattle.std.specs.Prelude.{ℕ, ◌^◌, ◌<◌, ◌≡◌, refl, List, ◌++◌, length, take, drop, Ok, Err}
 use Rattle.std.proofs.Common.{arith, sym, ap, ◌∙◌, subst}
 use Rattle.std.proofs.Math.Seq.{take-append_seam, drop-append_seam}
 use Rattle.fields_schema.specs.Tree.{Tree}
@@ -11,9 +11,7 @@ use Rattle.protocol.specs.Answer.{Outcome, refused, answered, reading}
 use Rattle.protocol.specs.Box.{box, answers}
 use Rattle.protocol.proofs.ReplySizeLaws.{reply-size}
 use Rattle.reply_send.specs.Answers.{LentBytes}
-use Rattle.device_response.specs.declared.Response.{Response}
-use Rattle.device_response.specs.declared.Response.TheVariants as response
-use Rattle.device_response.specs.Called.{Called, called, afterwards, AnsweringCall}
+use Rattle.device_response.specs.Called.{Called, Response, called, afterwards, AnsweringCall}
 use Rattle.protocol_guarantees.specs.Answered.{Answered}
 use Rattle.protocol_guarantees.proofs.CasesLaws.{refusal-number}
 use Rattle.protocol_guarantees.proofs.GoodLaws.{answer-leaves-good}
@@ -54,13 +52,8 @@ host-request s input out written taken out' s' word h m v rest i key c d e =
 
 -- every response shows the reply buffer as it is
 buffer : (c : state.Connection) (readings : List ℕ) (r : Response) (store device out : List ℕ) → (called c readings r store device out).out ≡ out
-buffer c readings response.OutShort store device out = refl
-buffer c readings response.StoreBad store device out = refl
-buffer c readings response.DeviceBad store device out = refl
-buffer c readings response.Closed store device out = refl
-buffer c readings response.More store device out = refl
-buffer c readings response.ReadingsBad store device out = refl
-buffer c readings (response.Answered written taken d) store device out = refl
+buffer c readings (Err refusal) store device out = refl
+buffer c readings (Ok a) store device out = refl
 
 module _ (input : List ℕ) (s : State) (out : LentBytes) (r : Response) (t : State) (call : AnsweringCall input s out r t) where
   -- what the call gave and left

@@ -1,10 +1,10 @@
 -- Steps 1 and 2, one law for each way that they go.
-use Rattle.std.specs.Prelude.{◌≡◌, refl, Bool, true, false, cond, List, ℕ, ◌+◌, ◌-◌, ◌*◌, ◌≤◌, length, take, drop, get_or}
+use Rattle.std.specs.Prelude.{◌≡◌, refl, Bool, true, false, cond, List, ℕ, ◌+◌, ◌-◌, ◌*◌, ◌≤◌, length, take, drop, get_or, Option as Maybe, Some, None}
 use Rattle.std.proofs.Common.{sym, ap₂, subst, ◌∙◌, arith, take_at}
 use Rattle.std.proofs.Math.Path.{ap}
 use Rattle.std.proofs.Math.Option.{Option, none, some}
 use Rattle.base_integers.specs.Signed.{word_of}
-use Rattle.fields_schema.specs.Tree.{guard, map_o}
+use Rattle.fields_schema.specs.Tree.{map_o}
 use Rattle.signature_hmac.specs.Hmac as signature
 use Rattle.signature_hmac.specs.Hmac.{hmac}
 use Rattle.signature_hmac.specs.HmacLaws.{verified-exactly}
@@ -12,8 +12,6 @@ use Rattle.access_record.specs.Table.{acl_of, place_of}
 use Rattle.access_record.specs.Record as access
 use Rattle.access_record.specs.Record.{table_of, bytes_at, Placed}
 use Rattle.access_record.proofs.TableLaws.{acl_of-at, place-of, length-bytes_at}
-use Rattle.access_record.specs.declared.IdentityPlace.{IdentityPlace}
-use Rattle.access_record.specs.declared.IdentityPlace.TheVariants.{At, Nobody}
 use Rattle.fields_encoding.proofs.BasicLaws.{never}
 use Rattle.fields_write_bytes.specs.Pushed.{Starts}
 use Rattle.fields_lookup.proofs.SliceLaws.{slice_at}
@@ -35,15 +33,14 @@ pub sent-as : {x y : Reply State} {n : ℕ} {out out' : List ℕ} {after : State
 sent-as {n = n} {out} {out'} {after} e h = subst (λ (x : Reply State). Sent x n out out' after) (sym e) h
 
 -- what step 1 reads
-pub sealed : (m : List ℕ) (r : Sealed) → sealed_view m r ≡ read_message m → r.ok ≡ true → {i : ℕ} → i ≡ word_of r.identity
+pub sealed : (m : List ℕ) (r : Sealed) → sealed_view m (Some r) ≡ read_message m → {i : ℕ} → i ≡ word_of r.identity
     → read_message m ≡ some (envelope i (take (r.hmac.start + r.hmac.len - r.hmac.start) (drop r.hmac.start m)) (take (r.command.start + r.command.len - r.command.start) (drop r.command.start m)))
-sealed m r e ok {i} ei =
-    sym e ∙ ap (λ (b : Bool). guard b (envelope (word_of r.identity) (bytes_in m r.hmac) (bytes_in m r.command))) ok
-    ∙ ap (λ (i : ℕ). some (envelope i (bytes_in m r.hmac) (bytes_in m r.command))) (sym ei)
+sealed m r e {i} ei =
+    sym e ∙ ap (λ (i : ℕ). some (envelope i (bytes_in m r.hmac) (bytes_in m r.command))) (sym ei)
     ∙ ap₂ (λ (x y : List ℕ). some (envelope i x y)) (sym (slice_at m r.hmac)) (sym (slice_at m r.command))
 
-pub unsealed : (m : List ℕ) (r : Sealed) → sealed_view m r ≡ read_message m → r.ok ≡ false → read_message m ≡ none
-unsealed m r e ok = sym e ∙ ap (λ (b : Bool). guard b (envelope (word_of r.identity) (bytes_in m r.hmac) (bytes_in m r.command))) ok
+pub unsealed : (m : List ℕ) → sealed_view m None ≡ read_message m → read_message m ≡ none
+unsealed m e = sym e
 
 -- ---- steps 1 and 2
 
@@ -63,11 +60,11 @@ module _ (s : State) (v : List ℕ) where
     unfolding reading_by
     looked-up = ap (λ (o : Option Envelope). respond box s v (opened hmac key_of o)) e
 
-    pub unknown : place_of (table s) i ≡ Nobody → reply_to m ≡ close s 2
-    unknown f = looked-up ∙ ap (λ (p : IdentityPlace). respond box s v (verified hmac key_of i sig c (map_o (λ a. a.key) (acl_at s p)))) f
+    pub unknown : place_of (table s) i ≡ None → reply_to m ≡ close s 2
+    unknown f = looked-up ∙ ap (λ (p : Maybe ℕ). respond box s v (verified hmac key_of i sig c (map_o (λ a. a.key) (acl_at s p)))) f
 
-    pub known : {p : ℕ} → place_of (table s) i ≡ At p → reply_to m ≡ respond box s v (verified hmac key_of i sig c (some (acl_of (table s) p).key))
-    known f = looked-up ∙ ap (λ (p : IdentityPlace). respond box s v (verified hmac key_of i sig c (map_o (λ a. a.key) (acl_at s p)))) f
+    pub known : {p : ℕ} → place_of (table s) i ≡ Some p → reply_to m ≡ respond box s v (verified hmac key_of i sig c (some (acl_of (table s) p).key))
+    known f = looked-up ∙ ap (λ (p : Maybe ℕ). respond box s v (verified hmac key_of i sig c (map_o (λ a. a.key) (acl_at s p)))) f
 
   module _ (i : ℕ) (sig c key : List ℕ) where
     pub wrong-hmac : same_bytes sig (hmac key c) ≡ false → respond box s v (verified hmac key_of i sig c (some key)) ≡ close s 2

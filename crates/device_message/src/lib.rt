@@ -1,11 +1,10 @@
 // Steps 1 and 2: a whole message read, its sender looked up and its hmac verified; the command is left to the steps after them.
 #![tactic(auto)]
 
-ghost use Rattle.std.specs.Prelude.{◌≡◌, true, ◌≤◌, length, take};
+ghost use Rattle.std.specs.Prelude.{◌≡◌, true, ◌≤◌, length, take, Some};
 ghost use Rattle.std.proofs.Math.Option.{some};
 ghost use Rattle.base_integers.specs.Signed.{word_of};
 ghost use Rattle.access_record.specs.Table.{acl_of, place_of, table_good};
-ghost use Rattle.access_record.specs.declared.IdentityPlace.TheVariants.{At};
 ghost use Rattle.access_record.specs.Record.{table_of, Placed};
 ghost use Rattle.signature_hmac.specs.Hmac.{hmac};
 ghost use Rattle.store_layout.specs.Store.{Good};
@@ -17,7 +16,7 @@ ghost use Rattle.protocol.specs.Box.{box};
 ghost use Rattle.protocol_connection.specs.ConnectionOf.{connection_of};
 ghost use Rattle.reply_send.specs.Answers.{Answers, before, after};
 
-use access_record::{IdentityPlace, Record};
+use access_record::Record;
 use device_command::Sender;
 use protocol::status::{CONNECTION_TERMINATED, HMAC_FAILURE};
 use protocol_connection::Connection;
@@ -43,7 +42,7 @@ fn verify_sender(
     out: &mut [u8],
 ) -> Replied
     requires { (4096 ≤ length out.old) × Good store.old × (table_good (table_of device.old) ≡ true)
-        × (place_of (table_of device.old) (word_of sender.identity) ≡ At sender.acl)
+        × (place_of (table_of device.old) (word_of sender.identity) ≡ Some sender.acl)
         × (length command.now ≤ 8192) × (readings_good readings.now ≡ true) }
     ensures { Answers (λ s. respond box s value.now
         (verified hmac (box.key_of s) (word_of sender.identity) digest.now command.now (some (acl_of (table s) sender.acl).key)))
@@ -81,18 +80,16 @@ pub fn answer_message(
     ensures { Answers (λ s. respond box s value.now (reading box s message.now))
         (before store device readings (connection_of connection)) out result.written (after store device readings (connection_of result.connection)) }
 {
-    let m = request_message::read_message(message);
-    let ok = m.ok;
-    if !ok {
+    let Some(m) = request_message::read_message(message) else {
         return close(connection, out, CONNECTION_TERMINATED);
-    }
+    };
     let identity = m.identity;
     let hmac = m.hmac.start;
     let hmac_end = hmac + m.hmac.len;
     let command = m.command.start;
     let command_end = command + m.command.len;
     match access_identity::find_identity(device, identity) {
-        IdentityPlace::At(acl) => {
+        Some(acl) => {
             let sender = Sender {
                 identity,
                 acl,
@@ -109,6 +106,6 @@ pub fn answer_message(
                 out,
             )
         }
-        IdentityPlace::Nobody => close(connection, out, HMAC_FAILURE),
+        None => close(connection, out, HMAC_FAILURE),
     }
 }

@@ -1,5 +1,5 @@
 -- What a response leaves, one law for each way that the call goes.
-use Rattle.std.specs.Prelude.{◌≡◌, Bool, true, false, cond, List, ◌++◌, ℕ, ◌+◌, ◌-◌, ◌≤◌, length, take, drop}
+use Rattle.std.specs.Prelude.{◌≡◌, Bool, true, false, cond, List, ◌++◌, ℕ, ◌+◌, ◌-◌, ◌≤◌, length, take, drop, Err}
 use Rattle.std.proofs.Common.{sym, ap, subst, ◌∙◌, arith, length-take, length-drop}
 use Rattle.log_readings.specs.Lent.{readings_good}
 use Rattle.protocol.specs.StatusCode.{CONNECTION_TERMINATED}
@@ -9,9 +9,8 @@ use Rattle.protocol.specs.Answer.{Outcome, refused, Reply, reply, taking, readin
 use Rattle.protocol.specs.Reply.{reply_bytes}
 use Rattle.protocol.specs.Box.{box, answers, close}
 use Rattle.reply_send.specs.Sent.{Sent}
-use Rattle.device_response.specs.declared.Response.{Response}
-use Rattle.device_response.specs.declared.Response.TheVariants.{OutShort, StoreBad, DeviceBad, Closed}
-use Rattle.device_response.specs.Called.{Called, refusing, answering, called, afterwards}
+use Rattle.device_response.specs.declared.Refusal.TheVariants.{OutShort, StoreBad, DeviceBad, Closed}
+use Rattle.device_response.specs.Called.{Called, refusing, answering, Response, called, afterwards}
 
 -- the refusals before the frame is looked at
 module _ (s : State) (out xs : List ℕ) where
@@ -21,16 +20,16 @@ module _ (s : State) (out xs : List ℕ) where
   abbrev Told : Response → Type 0
   Told r = called s.connection s.readings r s.store s.device out ≡ afterwards s out outcome
 
-  pub told-out-short : outcome ≡ refused 1 → Told OutShort
+  pub told-out-short : outcome ≡ refused 1 → Told (Err OutShort)
   told-out-short e = ap (afterwards s out) (sym e)
 
-  pub told-store-bad : outcome ≡ refused 2 → Told StoreBad
+  pub told-store-bad : outcome ≡ refused 2 → Told (Err StoreBad)
   told-store-bad e = ap (afterwards s out) (sym e)
 
-  pub told-device-bad : outcome ≡ refused 3 → Told DeviceBad
+  pub told-device-bad : outcome ≡ refused 3 → Told (Err DeviceBad)
   told-device-bad e = ap (afterwards s out) (sym e)
 
-  pub told-closed : outcome ≡ refused 4 → Told Closed
+  pub told-closed : outcome ≡ refused 4 → Told (Err Closed)
   told-closed e = ap (afterwards s out) (sym e)
 
 pub answered-by : (s : State) (t : ℕ) {x : Reply State} {n : ℕ} {out out' : List ℕ} {after : State} → Sent x n out out' after

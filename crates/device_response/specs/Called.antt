@@ -1,13 +1,14 @@
 -- What a response means.
-use Rattle.std.specs.Prelude.{◌≡◌, List, ◌++◌, ℕ, ◌^◌, ◌<◌, length, drop}
+use Rattle.std.specs.Prelude.{◌≡◌, List, ◌++◌, ℕ, ◌^◌, ◌<◌, length, drop, Result, Ok, Err}
 use Rattle.protocol.specs.State as state
 use Rattle.protocol.specs.State.{State, lent}
 use Rattle.protocol.specs.Answer.{Outcome, refused, answered}
 use Rattle.protocol.specs.Box.{answers}
 use Rattle.protocol_connection.specs.ConnectionOf.{connection_of}
 use Rattle.reply_send.specs.Answers.{LentBytes}
-use Rattle.device_response.specs.declared.Response.{Response}
-use Rattle.device_response.specs.declared.Response.TheVariants as response
+use Rattle.device_response.specs.declared.Answered.{Answered}
+use Rattle.device_response.specs.declared.Refusal.{Refusal}
+use Rattle.device_response.specs.declared.Refusal.TheVariants.{OutShort, StoreBad, DeviceBad, Closed, More, ReadingsBad}
 use Rattle.base_definitions.specs.Refusals.{OUT_SHORT, STORE_BAD, DEVICE_BAD, CLOSED, MORE, READINGS_BAD}
 
 -- a call: its refusal by document 01's number, or 0; the bytes of the reply and of the input taken; and all that is lent afterwards
@@ -25,15 +26,23 @@ refusing n s out = record { refusal = n; written = 0; taken = 0; state = s; out 
 abbrev pub answering : ℕ → ℕ → State → List ℕ → Called
 answering written taken after out = record { refusal = 0; written = written; taken = taken; state = after; out = out }
 
--- the code's answer, with the connection and the readings of the call, and the store, the device record and the reply buffer after it
+-- document 01's number of a refusal
+abbrev pub number_of : Refusal → ℕ
+number_of OutShort = OUT_SHORT
+number_of StoreBad = STORE_BAD
+number_of DeviceBad = DEVICE_BAD
+number_of Closed = CLOSED
+number_of More = MORE
+number_of ReadingsBad = READINGS_BAD
+
+-- the code's answer
+abbrev pub Response : Type 0
+Response = Result Answered Refusal
+
+-- what it says, with the connection and the readings of the call, and the store, the device record and the reply buffer after it
 abbrev pub called : state.Connection → List ℕ → Response → List ℕ → List ℕ → List ℕ → Called
-called c readings response.OutShort store device out = refusing OUT_SHORT (lent store device readings c) out
-called c readings response.StoreBad store device out = refusing STORE_BAD (lent store device readings c) out
-called c readings response.DeviceBad store device out = refusing DEVICE_BAD (lent store device readings c) out
-called c readings response.Closed store device out = refusing CLOSED (lent store device readings c) out
-called c readings response.More store device out = refusing MORE (lent store device readings c) out
-called c readings response.ReadingsBad store device out = refusing READINGS_BAD (lent store device readings c) out
-called c readings (response.Answered written taken d) store device out = answering written taken (lent store device readings (connection_of d)) out
+called c readings (Err refusal) store device out = refusing (number_of refusal) (lent store device readings c) out
+called c readings (Ok a) store device out = answering a.written a.taken (lent store device readings (connection_of a.connection)) out
 
 -- what an outcome leaves of a state and a reply buffer: "reply in the first bytes of the buffer, the rest of it unchanged, and the number of input bytes taken"
 abbrev pub afterwards : State → List ℕ → Outcome State → Called

@@ -8,25 +8,26 @@ use mathlib.Core.Option.{Option, none, some}
 use mathlib.Core.Bool.{Bool, true, false, cond}
 use lib.ListN.{length, take, drop, length-take}
 use Rattle.fields_wire.specs.Wire.{Value, Field, field, read_field, fields_of}
-use Rattle.fields_wire_reader.specs.FieldAnswer.{means_found, EndsFound, next_in}
+use Rattle.fields_wire.specs.Reader.{got, nothing}
+use Rattle.fields_wire_reader.specs.FieldAnswer.{EndsFound}
 use Rattle.fields_wire_reader.specs.declared.Found.{Found}
 use Rattle.fields_schema.specs.Rules.{rule_of, strict_of}
 use Rattle.fields_schema.specs.Tree.{map_o, then_o, is_some, Content, c_int, c_raw, c_fix, c_msg, Item, item, decode, find, add, by_rule, step, items, items_o, level}
 use Rattle.fields_schema.specs.Tree.{Tree, sub, open_one, open_all, listed}
 use Rattle.fields_schema.proofs.DepthLaws.{listed-opens}
-use Rattle.fields_value.specs.Taken.{means_taken, InsideTaken}
-use Rattle.fields_rule.specs.Judged.{Marks, Takes, Judges}
+use Rattle.fields_value.specs.Taken.{content_of, InsideTaken}
+use Rattle.std.specs.Prelude.{Option as Perhaps, Some, None, Ok}
+use Rattle.fields_rule.specs.Judged.{Marks, field_in, Takes, Judges}
 use Rattle.fields_decode.specs.Nested.{opens_taken}
 use Rattle.fields_schema.specs.declared.Kind.{Kind}
 use Rattle.fields_schema.proofs.OptionLaws.{none_of}
 use Rattle.fields_schema.specs.declared.Rule.{Rule}
 use Rattle.fields_schema.specs.declared.Rule.TheVariants.{Unlisted, Refused, Once, Single, Repeated}
 use Rattle.fields_value.specs.declared.Taken.{Taken}
-use Rattle.fields_value.specs.declared.Taken.TheVariants.{Number, Slice, Fixed, Inside, Wrong}
-use Rattle.fields_rule.specs.declared.Judged.{Judged}
-use Rattle.fields_rule.specs.declared.Judged.TheVariants.{Refuse, Skip, Take}
+use Rattle.fields_value.specs.declared.Taken.TheVariants.{Number, Slice, Fixed, Inside}
+use Rattle.fields_rule.specs.declared.Take.{Take}
 use Rattle.fields_decode.proofs.Storing.{no-marks}
-use Rattle.fields_decode.proofs.Walking.{Walk, walk_start, walk_end, walk_none, walk-refuse, walk-on}
+use Rattle.fields_decode.proofs.Walking.{Walk, walk_start, walk_end, walk_none, walk-refuse, walk-on, judged-skip, judged-take}
 
 -- items that can be opened ----------------------------------------------------------------
 abbrev OpenC : Content → Type 0
@@ -141,56 +142,51 @@ reading-end k s seen at g l =
 refuses : (k : Kind) (s : List ℕ) → level k s ≡ none → false ≡ is_some (listed k s)
 refuses k s e = sym (ap is_some (shut-level k s none e tt))
 
-module _ (k : Kind) (s : List ℕ) (seen at : ℕ) (g : Reading k s seen at) (l : at < length s) (f : Found) (m : means_found s f ≡ read_field (drop at s)) (e : EndsFound s at f)
-    (next : ℕ) (p : next ≡ next_in f) where
-  pub reading-none : next ≤ at → false ≡ is_some (listed k s)
-  reading-none n = refuses k s (walk_none k s at g.found g.walk l f m e (subst (λ (j : ℕ). j ≤ at) p n))
+module _ (k : Kind) (s : List ℕ) (seen at : ℕ) (g : Reading k s seen at) where
+  pub reading-none : at < length s → nothing ≡ read_field (drop at s) → false ≡ is_some (listed k s)
+  reading-none l n = refuses k s (walk_none k s at g.found g.walk l n)
 
-  module _ (n : at < next) (b : Judged) (y : (s : List ℕ) (at : ℕ) (is : List Item) → EndsFound s at f → Marks k seen is → Judges s k is f b) where
-    judged-as : {c : Judged} → b ≡ c → Judges s k g.found f c
-    judged-as q = subst (λ (b : Judged). Judges s k g.found f b) q (y s at g.found e g.marks)
+  module _ (f : Found) (m : got (field_in s f) (drop f.next s) ≡ read_field (drop at s)) (e : EndsFound s at f) where
+    pub reading-refused : step k (field_in s f) g.found ≡ none → false ≡ is_some (listed k s)
+    reading-refused q = refuses k s (walk-refuse k s at g.found g.walk f m q)
 
-    pub reading-refused : b ≡ Refuse → false ≡ is_some (listed k s)
-    reading-refused q = refuses k s (walk-refuse k s at g.found g.walk l f m e next p n (judged-as q))
+    pub reading-skip : (r : Perhaps Take) → r ≡ None → Judges s k g.found f (Ok r) → Reading k s seen f.next
+    reading-skip r q h = record { found = g.found; walk = walk-on k s at g.found g.walk f m e g.found (judged-skip s k g.found f r h q); marks = g.marks; good = g.good }
 
-    pub reading-skip : b ≡ Skip → Reading k s seen next
-    reading-skip q = record { found = g.found; walk = walk-on k s at g.found g.walk l f m e next p n g.found (judged-as q); marks = g.marks; good = g.good }
+    module _ (t : Take) (r : Perhaps Take) (q : r ≡ Some t) (h : Judges s k g.found f (Ok r)) where
+      pub takes : Takes s k g.found f t
+      takes = judged-take s k g.found f r h t q
 
-    module _ (i x : ℕ) (w : Taken) (q : b ≡ Take i x w) where
-      pub taken : Takes s k g.found f i x w
-      taken = judged-as q
+      abbrev more : List Item
+      more = g.found ++ (item t.number (content_of s t.what) ∷ [])
 
-      more : (c : Content) → means_taken s w ≡ some c → OpenC c → Reading k s x next
-      more c d o = record {
-        found = g.found ++ (item i c ∷ []);
-        walk = walk-on k s at g.found g.walk l f m e next p n (g.found ++ (item i c ∷ [])) (taken.adds ∙ ap (add i g.found) d);
-        marks = taken.marked c;
-        good = all_snoc g.found i c g.good o;
+      on : Walk k s f.next more
+      on = walk-on k s at g.found g.walk f m e more takes.adds
+
+      open-content : (w : Taken) → opens_taken s w ≡ true → OpenC (content_of s w)
+      open-content (Number v) o = tt
+      open-content (Slice a c) o = tt
+      open-content (Fixed a) o = tt
+      open-content (Inside j a c) o = o
+
+      pub reading-on : opens_taken s t.what ≡ true → Reading k s t.seen f.next
+      reading-on o = record {
+        found = more;
+        walk = on;
+        marks = takes.marked (content_of s t.what);
+        good = all_snoc g.found t.number (content_of s t.what) g.good (open-content t.what o);
       }
 
-      pub reading-on : opens_taken s w ≡ true → Reading k s x next
-      reading-on o = go w refl o
+      pub reading-shut : opens_taken s t.what ≡ false → false ≡ is_some (listed k s)
+      reading-shut o =
+          let h : ShutO (level k s) = subst (λ (o : Option (List Item)). ShutO o) (sym on.rest) (shut-items_o k (fields_of (drop f.next s)) more (go t.what o)) in
+          sym (ap is_some (shut-level k s (level k s) refl h))
         where
-          go : (v : Taken) → w ≡ v → opens_taken s v ≡ true → Reading k s x next
-          go (Number v) r o = more (c_int v) (ap (means_taken s) r) tt
-          go (Slice a c) r o = more (c_raw (take c (drop a s))) (ap (means_taken s) r) tt
-          go (Fixed a) r o = more (c_fix (take 4 (drop a s))) (ap (means_taken s) r) tt
-          go (Inside j a c) r o = more (c_msg j (take c (drop a s))) (ap (means_taken s) r) o
-          go Wrong r o = let z : ◌≡◌ {A = ℕ} 0 1 = cc (o) in absurd (omega arith)
-
-      pub reading-shut : opens_taken s w ≡ false → false ≡ is_some (listed k s)
-      reading-shut o = go w refl o
-        where
-          go : (v : Taken) → w ≡ v → opens_taken s v ≡ false → false ≡ is_some (listed k s)
-          go (Number v) r o = let z : ◌≡◌ {A = ℕ} 0 1 = cc (o) in absurd (omega arith)
-          go (Slice a c) r o = let z : ◌≡◌ {A = ℕ} 0 1 = cc (o) in absurd (omega arith)
-          go (Fixed a) r o = let z : ◌≡◌ {A = ℕ} 0 1 = cc (o) in absurd (omega arith)
-          go (Inside j a c) r o =
-              let x = walk-on k s at g.found g.walk l f m e next p n _ (taken.adds ∙ ap (λ v. add i g.found (means_taken s v)) r) in
-              let h : ShutO (level k s) = subst (λ (o : Option (List Item)). ShutO o) (sym x.rest)
-              (shut-items_o k (fields_of (drop next s)) (g.found ++ (item i (c_msg j (take c (drop a s))) ∷ [])) (shut-last i j (take c (drop a s)) g.found (none_of _ o))) in
-              sym (ap is_some (shut-level k s (level k s) refl h))
-          go Wrong r o = refuses k s (walk-refuse k s at g.found g.walk l f m e next p n (taken.adds ∙ ap (λ v. add i g.found (means_taken s v)) r))
+          go : (w : Taken) → opens_taken s w ≡ false → Shut (g.found ++ (item t.number (content_of s w) ∷ []))
+          go (Number v) o = let z : ◌≡◌ {A = ℕ} 0 1 = cc (o) in absurd (omega arith)
+          go (Slice a c) o = let z : ◌≡◌ {A = ℕ} 0 1 = cc (o) in absurd (omega arith)
+          go (Fixed a) o = let z : ◌≡◌ {A = ℕ} 0 1 = cc (o) in absurd (omega arith)
+          go (Inside j a c) o = shut-last t.number j (take c (drop a s)) g.found (none_of _ o)
 
 -- the message inside ------------------------------------------------------------------------
 module _ (s : List ℕ) (w : Taken) (j : Kind) (a c : ℕ) (q : w ≡ Inside j a c) (h : InsideTaken s w) where

@@ -6,7 +6,7 @@ use Rattle.fields_schema.specs.Tree.{guard, later, Content, c_int, c_raw, c_fix,
 use Rattle.fields_rule.specs.Judged.{is_single, Marks}
 use Rattle.fields_schema.specs.declared.Kind.{Kind}
 use Rattle.fields_value.specs.declared.Taken.{Taken}
-use Rattle.fields_value.specs.declared.Taken.TheVariants.{Number, Slice, Fixed, Inside, Wrong}
+use Rattle.fields_value.specs.declared.Taken.TheVariants.{Number, Slice, Fixed, Inside}
 use Rattle.fields_decode.specs.declared.slots.Slot.{Slot}
 use Rattle.fields_decode.specs.declared.slots.Slots.{Slots}
 
@@ -22,11 +22,10 @@ pub record Sized (t : Slots) : Type 0 where
 
 -- what is stored of a field
 abbrev pub slot_of : Taken → Slot
-slot_of (Number v) = record { ok = true; value = v; len = 0 }
-slot_of (Slice start len) = record { ok = true; value = start; len = len }
-slot_of (Fixed start) = record { ok = true; value = start; len = 4 }
-slot_of (Inside k start len) = record { ok = true; value = start; len = len }
-slot_of Wrong = record { ok = false; value = 0; len = 0 }
+slot_of (Number v) = record { value = v; len = 0 }
+slot_of (Slice start len) = record { value = start; len = len }
+slot_of (Fixed start) = record { value = start; len = 4 }
+slot_of (Inside k start len) = record { value = start; len = len }
 
 -- a and b say what a field holds: the number a, or the b bytes from a, which lie inside
 abbrev pub Shows : List ℕ → ℕ → ℕ → Content → Type 0

@@ -3,10 +3,10 @@ ghost use Rattle.std.specs.Prelude.{◌≡◌, false};
 ghost use Rattle.fields_schema.specs.Tree.{level};
 ghost use Rattle.fields_decode.specs.Slots.{slot_of, Tells};
 
-use fields_rule::{Judged, judge};
+use fields_rule::judge;
 use fields_schema::Kind;
 use fields_value::Taken;
-use fields_wire_reader::{next_of, read_field};
+use fields_wire_reader::read_field;
 
 // Bit n of `has`: number n is there. Its number, or where its bytes start, and how many they are, stand at place n.
 #[derive(Clone, Copy)]
@@ -17,10 +17,9 @@ pub struct Slots {
     pub len: [usize; 16],
 }
 
-// What is stored of a field; or it is refused.
+// What is stored of a field.
 #[derive(Clone, Copy)]
 pub struct Slot {
-    pub ok: bool,
     pub value: u64,
     pub len: usize,
 }
@@ -29,34 +28,14 @@ fn slot_of(w: Taken) -> Slot
     ensures { result ≡ slot_of w }
 {
     match w {
-        Taken::Number(v) => Slot {
-            ok: true,
-            value: v,
-            len: 0,
-        },
-        Taken::Slice { start, len } => Slot {
-            ok: true,
-            value: start as u64,
-            len,
-        },
+        Taken::Number(value) => Slot { value, len: 0 },
         Taken::Fixed { start } => Slot {
-            ok: true,
             value: start as u64,
             len: 4,
         },
-        Taken::Inside {
-            kind: _,
-            start,
-            len,
-        } => Slot {
-            ok: true,
+        Taken::Slice { start, len } | Taken::Inside { start, len, .. } => Slot {
             value: start as u64,
             len,
-        },
-        Taken::Wrong => Slot {
-            ok: false,
-            value: 0,
-            len: 0,
         },
     }
 }
@@ -72,41 +51,29 @@ fn refused() -> Slots
     }
 }
 
-// One pass over the fields of a message of one kind.
+// One pass over the fields of a message of one kind, from place to place.
 pub fn collect(s: &[u8], kind: Kind) -> Slots
     ensures { Tells kind s.now result (level kind s.now) }
 {
     let mut seen: u64 = 0;
     let mut value: [u64; 16] = [0; 16];
     let mut len: [usize; 16] = [0; 16];
+    // A while: each field says where the next one starts.
     let mut at = 0;
     while at < s.len() {
-        let f = read_field(s, at);
-        let next = next_of(f);
-        if next <= at {
+        let Some(f) = read_field(s, at) else {
             return refused();
+        };
+        let Ok(judged) = judge(kind, seen, f) else {
+            return refused();
+        };
+        if let Some(t) = judged {
+            let p = slot_of(t.what);
+            value[t.number] = p.value;
+            len[t.number] = p.len;
+            seen = t.seen;
         }
-        match judge(kind, seen, f) {
-            Judged::Refuse => {
-                return refused();
-            }
-            Judged::Skip => {}
-            Judged::Take {
-                number,
-                seen: x,
-                what,
-            } => {
-                let p = slot_of(what);
-                let ok = p.ok;
-                if !ok {
-                    return refused();
-                }
-                value[number] = p.value;
-                len[number] = p.len;
-                seen = x;
-            }
-        }
-        at = next;
+        at = f.next;
     }
     Slots {
         ok: true,

@@ -2,35 +2,15 @@
 #![tactic(auto)]
 
 ghost use Rattle.std.specs.Prelude.{cond, ◌≡◌};
+ghost use Rattle.std.specs.Option.{option_or};
 
-use fields_lookup::parts::{Num, Part, Signed};
+use fields_lookup::parts::Part;
 
-// The later number, or where there is none the earlier.
-pub fn later_num(before: Num, after: Num) -> Num
-    ensures { result ≡ cond after.has after before }
+// The later one, or where there is none the earlier.
+pub fn later<T: Copy>(before: Option<T>, after: Option<T>) -> Option<T>
+    ensures { result ≡ option_or after before }
 {
-    let has = after.has;
-    if has {
-        return Num {
-            has: true,
-            value: after.value,
-        };
-    }
-    Num {
-        has: before.has,
-        value: before.value,
-    }
-}
-
-// The later signed number, or where there is none the earlier.
-pub fn later_signed(before: Signed, after: Signed) -> Signed
-    ensures { result ≡ cond after.has after before }
-{
-    let has = after.has;
-    if has {
-        return after;
-    }
-    before
+    after.or(before)
 }
 
 // The later part, or where there is none the earlier.

@@ -1,11 +1,16 @@
 -- A number or a part out of the slots of a level that decodes.
-use Prim.Native.Nat.{ℕ, zero, suc, ◌+◌, ◌-◌, ◌≤◌, ◌<◌}
+use Prim.Native.Nat.{ℕ, zero, suc, ◌+◌, ◌-◌, ◌≤◌, ◌<◌, ◌^◌}
 use native.Mathlib.Omega.{arith}
 use native.Mathlib.Nat.{add-sub_cancel_left}
 use mathlib.Core.Path.{◌≡◌, refl, sym, ap, ◌∙◌, subst}
 use mathlib.Core.List.{List, [], ◌∷◌}
 use mathlib.Core.Option.{Option, none, some}
 use mathlib.Core.Bool.{Bool, true, false}
+use Rattle.std.specs.Bool.{then_some}
+use Rattle.std.specs.Prelude.{ℤ, Some, None, IfSome, MatchOption, IsSomeAnd}
+use Rattle.std.specs.Prelude as std
+use Rattle.base_integers.specs.Signed.{signed_of, word_of}
+use Rattle.base_integers.specs.SignedLaws.{word-signed}
 use lib.ListN.{length, take, drop, get_or, length-take, length-drop}
 use lib.Seq.{drop-drop, take-length}
 use Rattle.fields_wire.specs.Wire.{Value, vint, v64, vlen, v32, fields_of, fields_in}
@@ -21,7 +26,7 @@ use Rattle.fields_schema.specs.declared.Form.TheVariants.{Int64, Int32, Named, F
 use Rattle.fields_schema.specs.declared.Rule.{Rule}
 use Rattle.fields_schema.specs.declared.Rule.TheVariants.{Unlisted, Refused, Once, Single, Repeated}
 use Rattle.fields_decode.specs.declared.slots.Slots.{Slots}
-use Rattle.fields_lookup.specs.Views.{tree_of, bytes_at, no_part, Inside, Lies, Level, SlotInside, Singular, is_numeric, is_number, Alone, NumIs, Sub, PartIs}
+use Rattle.fields_lookup.specs.Views.{tree_of, bytes_at, no_part, Inside, Lies, Level, SlotInside, Singular, is_numeric, is_number, Alone, num_view, signed_view, NumIs, Sub, PartIs}
 use Rattle.fields_lookup.specs.Level.{Is, Decodes, int_c, raw_c, sub_c, IsMessage}
 use Rattle.fields_lookup.proofs.LevelLaws.{all_more, level_all, level-decodes, level-once, last-there, sole-last, level-of, int-look, raw-look, sub-look, there-look, open-message}
 use Rattle.fields_lookup.specs.declared.parts.Part.{Part}
@@ -165,11 +170,15 @@ module _ (k : Kind) (m : List ℕ) (t : Slots) (y : Level k m t) where
   number-none : (n : ℕ) → is_number (rule_of k n) ≡ true → bit t.has n ≡ false → none ≡ int_at n (tree_of k m)
   number-none n i e = let g = number-form (rule_of k n) i in sym (int_is n g.0 g.1 (int-sort g.0 g.2) (absent n g.0 g.1 e))
 
-pub num-is : (t : Slots) (n : ℕ) (b : Bool) → b ≡ bit t.has n → b ≡ true → NumIs t n (record { has = true; value = get_or t.value n 0 })
-num-is t n b e y k m l i = number-here k m t l n i (sym e ∙ y)
+pub num-is : (t : Slots) (n : ℕ) (b : Bool) → b ≡ bit t.has n → NumIs t n (then_some b (get_or t.value n 0))
+num-is t n true e k m l i = number-here k m t l n i (sym e)
+num-is t n false e k m l i = number-none k m t l n i (sym e)
 
-pub num-no : (t : Slots) (n : ℕ) (b : Bool) → b ≡ bit t.has n → b ≡ false → NumIs t n (record { has = false; value = 0 })
-num-no t n b e y k m l i = number-none k m t l n i (sym e ∙ y)
+-- of a number read as a signed one the word is the number
+pub signed-is : (x : std.Option ℕ) (r : std.Option ℤ) → IfSome x (λ v. v < 2 ^ 64) → MatchOption x (r ≡ None) (λ v. IsSomeAnd r (λ w. w ≡ signed_of v)) → signed_view r ≡ num_view x
+signed-is None r f h = ap signed_view h
+signed-is (Some v) (Some w) f h = ap some (ap word_of h ∙ word-signed v f)
+signed-is (Some v) None f h = absurd h
 
 -- parts ------------------------------------------------------------------------------------------
 pub part-part : (l a n : ℕ) (x : List ℕ) → a + l ≤ n → take l (drop a (take n x)) ≡ take l (drop a x)

@@ -1,6 +1,7 @@
 -- What the answers of the look-ups mean over the bytes that they point into.
-use Rattle.std.specs.Prelude.{ℕ, ◌+◌, ◌≤◌, ◌≡◌, List, [], Bool, true, false, length, take, drop, get_or}
-use Rattle.std.proofs.Math.Option.{Option}
+use Rattle.std.specs.Prelude.{ℕ, ◌+◌, ◌≤◌, ◌≡◌, List, [], Bool, true, false, length, take, drop, get_or, ℤ, Some, None}
+use Rattle.std.specs.Prelude as std
+use Rattle.std.proofs.Math.Option.{Option, none, some}
 use Rattle.fields_schema.specs.Rules.{rule_of}
 use Rattle.fields_schema.specs.Tree.{guard, is_some, level, Tree, join, listed, int_at, raw_at, sub_at, tree_in}
 use Rattle.base_definitions.specs.Options.{or_else}
@@ -13,9 +14,7 @@ use Rattle.fields_schema.specs.declared.Form.TheVariants.{Int64, Int32, Named, F
 use Rattle.fields_schema.specs.declared.Rule.{Rule}
 use Rattle.fields_schema.specs.declared.Rule.TheVariants.{Unlisted, Refused, Once, Single, Repeated}
 use Rattle.fields_decode.specs.declared.slots.Slots.{Slots}
-use Rattle.fields_lookup.specs.declared.parts.Num.{Num}
 use Rattle.fields_lookup.specs.declared.parts.Part.{Part}
-use Rattle.fields_lookup.specs.declared.parts.Signed.{Signed}
 
 -- a message that decodes, and what it says
 abbrev pub Reads : Kind → List ℕ → Type 0
@@ -24,13 +23,15 @@ Reads k m = is_some (listed k m) ≡ true
 unfoldable pub tree_of : Kind → List ℕ → Tree
 tree_of k m = tree_in (listed k m)
 
--- the answers
-abbrev pub num_view : Num → Option ℕ
-num_view n = guard n.has n.value
+-- the answers, as the definitions have them
+abbrev pub num_view : std.Option ℕ → Option ℕ
+num_view None = none
+num_view (Some v) = some v
 
 -- of a signed number its word, which is what a tree has
-abbrev pub signed_view : Signed → Option ℕ
-signed_view n = guard n.has (word_of n.value)
+abbrev pub signed_view : std.Option ℤ → Option ℕ
+signed_view None = none
+signed_view (Some v) = some (word_of v)
 
 unfoldable pub bytes_at : List ℕ → Part → List ℕ
 bytes_at s p = take p.len (drop p.start s)
@@ -92,10 +93,10 @@ Alone (Single f) t = bit t.has 0 ≡ false
 Alone (Repeated f) t = ⊥
 
 -- the number that the message has there
-abbrev pub NumIs : Slots → ℕ → Num → Type 0
+abbrev pub NumIs : Slots → ℕ → std.Option ℕ → Type 0
 NumIs t n r = (k : Kind) (m : List ℕ) → Level k m t → is_number (rule_of k n) ≡ true → num_view r ≡ int_at n (tree_of k m)
 
-abbrev pub SignedIs : Slots → ℕ → Signed → Type 0
+abbrev pub SignedIs : Slots → ℕ → std.Option ℤ → Type 0
 SignedIs t n r = (k : Kind) (m : List ℕ) → Level k m t → is_number (rule_of k n) ≡ true → signed_view r ≡ int_at n (tree_of k m)
 
 -- a part where a message of kind k lies: it decodes, as the tree if there is one

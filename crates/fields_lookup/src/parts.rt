@@ -10,20 +10,6 @@ use fields_decode::slots::{Slots, collect};
 use fields_rule::marked;
 use fields_schema::Kind;
 
-// A number, if there is one.
-#[derive(Clone, Copy)]
-pub struct Num {
-    pub has: bool,
-    pub value: u64,
-}
-
-// A signed number, if there is one.
-#[derive(Clone, Copy)]
-pub struct Signed {
-    pub has: bool,
-    pub value: i64,
-}
-
 // A part of the message, if there is one; start and len are 0 where there is none.
 #[derive(Clone, Copy)]
 pub struct Part {
@@ -42,33 +28,20 @@ pub fn open_at(s: &[u8], p: Part, kind: Kind) -> Slots
     collect(&s[start..end], kind)
 }
 
-// The number of a level under a singular field number.
-pub fn num_of(t: Slots, n: u64) -> Num
+// The number of a level under a singular field number, if there is one.
+pub fn num_of(t: Slots, n: u64) -> Option<u64>
     requires { (n < 16) × Sized t }
     ensures { NumIs t n result }
 {
-    if marked(t.has, n) {
-        return Num {
-            has: true,
-            value: t.value[n as usize],
-        };
-    }
-    Num {
-        has: false,
-        value: 0,
-    }
+    marked(t.has, n).then_some(t.value[n as usize])
 }
 
 // The same of a signed number: 64-bit two's complement.
-pub fn signed_of(t: Slots, n: u64) -> Signed
+pub fn signed_of(t: Slots, n: u64) -> Option<i64>
     requires { (n < 16) × Sized t }
     ensures { SignedIs t n result }
 {
-    let x = num_of(t, n);
-    Signed {
-        has: x.has,
-        value: signed(x.value),
-    }
+    num_of(t, n).map(signed)
 }
 
 // The part of the whole message under a singular field number of the level in its part p.

@@ -2,30 +2,24 @@
 use Prim.Native.Nat.{ℕ, ◌+◌, ◌-◌, ◌≤◌, ◌<◌}
 use native.Mathlib.Omega.{arith}
 use native.Mathlib.Nat.{add-sub_cancel_left}
-use mathlib.Core.Path.{◌≡◌, refl, sym, ap, ap₂, ◌∙◌, subst}
+use mathlib.Core.Path.{◌≡◌, refl, sym, ap, ◌∙◌, subst}
 use mathlib.Core.List.{List, [], ◌∷◌}
-use mathlib.Core.Bool.{Bool, true, false}
+use mathlib.Core.Bool.{true}
 use lib.ListN.{length, take, drop, length-drop}
 use lib.Seq.{take-length}
-use Rattle.fields_wire.specs.Wire.{vint, vlen, fields_of}
+use Rattle.std.specs.Prelude.{Option as Perhaps, Some, None}
+use Rattle.fields_wire_reader.specs.FieldAnswer.{BytesLie, value_of_held}
 use Rattle.fields_wire_reader.specs.declared.Found.{Found}
-use Rattle.fields_wire_reader.specs.declared.Found.TheVariants.{Varint, I64, Len, I32, NoField}
-use Rattle.fields_wire_reader.proofs.FieldPlaces.{fields-end}
-use Rattle.fields_schema.specs.Tree.{is_some}
-use Rattle.fields_lookup.specs.Views.{bytes_at, no_part, Inside}
-use Rattle.fields_repeated.specs.Values.{values_in, parts_of, numbers_of, parts_in, numbers_in, WellFramed, NextIs, span_of, word_of, NextPartIs, NextNumIs}
+use Rattle.fields_wire_reader.specs.declared.Held.{Held}
+use Rattle.fields_wire_reader.specs.declared.Held.TheVariants.{Varint, I64, Len, I32}
+use Rattle.fields_lookup.specs.Views.{bytes_at, Inside}
+use Rattle.fields_repeated.specs.Values.{values_in, parts_of, numbers_of, parts_in, numbers_in, WellFramed, NextIs, NextFound, Next, NextPartIs, NextNumIs}
 use Rattle.fields_lookup.specs.declared.parts.Part.{Part}
-use Rattle.fields_repeated.specs.declared.Span.{Span}
-use Rattle.fields_repeated.specs.declared.Word.{Word}
-use Rattle.fields_repeated.proofs.Seeking.{no-values}
-use Rattle.fields_lookup.proofs.Slotted.{length_at, inner-at, nil-at, lies-no}
+use Rattle.fields_lookup.proofs.Slotted.{length_at, inner-at}
 
-no : {A : Type 0} → ◌≡◌ {A = Bool} true false → A
-no e = let z : ◌≡◌ {A = ℕ} 0 1 = cc in absurd (omega arith)
-
-pub found_at : (s : List ℕ) (left : Part) (n : ℕ) (f : Found) → NextIs (take (left.start + left.len - left.start) (drop left.start s)) n f → NextIs (bytes_at s left) n f
+pub found_at : (s : List ℕ) (left : Part) (n : ℕ) (r : Perhaps Found) → NextFound (take (left.start + left.len - left.start) (drop left.start s)) n r → NextFound (bytes_at s left) n r
 unfolding bytes_at
-found_at s left n f h = subst (λ (j : ℕ). NextIs (take j (drop left.start s)) n f) (add-sub_cancel_left left.start left.len) h
+found_at s left n r h = subst (λ (j : ℕ). NextFound (take j (drop left.start s)) n r) (add-sub_cancel_left left.start left.len) h
 
 -- what is left after a place
 rest_at : (s : List ℕ) (left : Part) (x : ℕ) → Inside s left → x ≤ left.len → bytes_at s (record { has = true; start = left.start + x; len = left.len - x }) ≡ drop x (bytes_at s left)
@@ -34,126 +28,70 @@ rest_at s left x i l =
     let q : left.len - x ≡ length (drop x (bytes_at s left)) = omega (arith, length-drop x (bytes_at s left), length_at s left i) in
     inner-at s left true x (left.len - x) i w ∙ ap (λ j. take j (drop x (bytes_at s left))) q ∙ take-length (drop x (bytes_at s left))
 
-none_left : (s : List ℕ) (n : ℕ) → values_in n (bytes_at s no_part) ≡ []
-none_left s n = ap (values_in n) (nil-at s) ∙ no-values n
-
-nil-framed : (s : List ℕ) → WellFramed (bytes_at s no_part)
-nil-framed s = ap (λ m. is_some (fields_of m)) (nil-at s) ∙ ap is_some fields-end
-
 module _ (s : List ℕ) (left : Part) (n : ℕ) (i : Inside s left) where
   abbrev m : List ℕ
   m = bytes_at s left
 
+  abbrev at : ℕ → Part
+  at x = record { has = true; start = left.start + x; len = left.len - x }
+
+  -- what is left, after a value that ends at x
+  next-at : {A : Type 0} (values : List ℕ → List A) (head : A) (x : ℕ) → 0 < x → x ≤ length m → (WellFramed m → values m ≡ head ∷ values (drop x m)) → (WellFramed m → WellFramed (drop x m))
+      → Next values s left (at x) head
+  next-at values head x z y h g =
+      let len = length_at s left i in
+      let r = rest_at s left x i (omega (arith, len)) in
+      record {
+        inside = omega (arith, len);
+        shorter = omega (arith, len);
+        first = λ w. h w ∙ ap (λ c. head ∷ values c) (sym r);
+        framed = λ w. subst (λ (c : List ℕ). WellFramed c) (sym r) (g w);
+      }
+
+  -- where the field that was found ends
+  pub bounds-next : (f : Found) → NextIs m n f → f.next ≤ left.len
+  bounds-next f h = let d = h.ends.inside in omega (arith, length_at s left i)
+
   -- a part
-  spans : (a l x : ℕ) → 0 < x → x ≤ length m → a + l ≡ x → (WellFramed m → values_in n m ≡ vlen (take l (drop a m)) ∷ values_in n (drop x m)) → (WellFramed m → WellFramed (drop x m))
-      → NextPartIs s left n (record { part = record { has = true; start = left.start + a; len = l }; rest = record { has = true; start = left.start + x; len = left.len - x } })
-  spans a l x z y e h g =
+  pub bounds-span : (f : Found) {a l : ℕ} → NextIs m n f → f.held ≡ Len a l → a + l ≡ f.next
+  bounds-span f h e = (subst (λ (o : Held). BytesLie 0 f.next o) e h.ends.bytes).0
+
+  pub next-span : (f : Found) {a l : ℕ} → NextIs m n f → f.held ≡ Len a l → NextPartIs s left n (Some (record { has = true; start = left.start + a; len = l }, at f.next))
+  next-span f {a} {l} h e =
+      let b = bounds-span f h e in
+      let d = h.ends.inside in
+      let z = h.ends.after in
       let len = length_at s left i in
       let p = inner-at s left true a l i (omega arith) in
-      let r = rest_at s left x i (omega arith) in
-      record {
-        lies = record { inside = omega arith; empty = refl };
-        inside = omega arith;
-        shorter = λ w. omega arith;
-        first = λ w. ap parts_of (h w) ∙ ap₂ (λ b c. b ∷ parts_in n c) (sym p) (sym r);
-        framed = λ w. subst (λ (c : List ℕ). WellFramed c) (sym r) (g w);
-        last = λ w. no w;
-      }
+      let v = ap (λ (o : Held). parts_of (value_of_held m o ∷ values_in n (drop f.next m))) e in
+      (record { inside = omega arith; empty = refl }, next-at (parts_in n) _ f.next z d (λ w. ap parts_of (h.first w) ∙ v ∙ ap (λ b. b ∷ parts_in n (drop f.next m)) (sym p)) h.framed)
 
-  no-spans : (WellFramed m → parts_in n m ≡ []) → NextPartIs s left n (record { part = no_part; rest = no_part })
-  no-spans h = record {
-    lies = lies-no s;
-    inside = omega arith;
-    shorter = λ w. no (sym w);
-    first = λ w. h w ∙ sym (ap parts_of (none_left s n));
-    framed = λ w. nil-framed s;
-    last = λ w. ap parts_of (none_left s n);
-  }
+  pub none-span : (WellFramed m → values_in n m ≡ []) → (r : Perhaps (Part × Part)) → r ≡ None → NextPartIs s left n r
+  none-span h r e = subst (λ (r : Perhaps (Part × Part)). NextPartIs s left n r) (sym e) (λ w. ap parts_of (h w))
 
-  pub bounds-span : (f : Found) (x : Span) → NextIs m n f → x ≡ span_of f → x.has ≡ true → (x.start + x.len ≡ x.next) × (x.next ≤ left.len)
-  bounds-span f x h e w = let len = length_at s left i in go f h e
+  pub no-span : (f : Found) → NextIs m n f → ((a l : ℕ) → f.held ≡ Len a l → ⊥) → NextPartIs s left n None
+  no-span f h e = go f.held h.first e
     where
-      go : (f : Found) → NextIs m n f → x ≡ span_of f → (x.start + x.len ≡ x.next) × (x.next ≤ left.len)
-      go (Len k a l y) h e =
-          let d = h.ends in
-          let len = length_at s left i in
-          subst (λ (x : Span). (x.start + x.len ≡ x.next) × (x.next ≤ left.len)) (sym e) (d.2, omega (arith, d.1))
-      go (Varint k v y) h e = no (sym w ∙ ap (λ (x : Span). x.has) e)
-      go (I64 k a y) h e = no (sym w ∙ ap (λ (x : Span). x.has) e)
-      go (I32 k a y) h e = no (sym w ∙ ap (λ (x : Span). x.has) e)
-      go NoField h e = no (sym w ∙ ap (λ (x : Span). x.has) e)
-
-  pub next-span : (f : Found) (x : Span) → NextIs m n f → x ≡ span_of f → x.has ≡ true
-      → NextPartIs s left n (record { part = record { has = true; start = left.start + x.start; len = x.len }; rest = record { has = true; start = left.start + x.next; len = left.len - x.next } })
-  next-span (Len k a l y) x h e w =
-      subst (λ (x : Span). NextPartIs s left n (record { part = record { has = true; start = left.start + x.start; len = x.len }; rest = record { has = true; start = left.start + x.next; len = left.len - x.next } }))
-      (sym e) (let d = h.ends in spans a l y (omega (arith, d.0)) d.1 d.2 h.first h.framed)
-  next-span (Varint k v y) x h e w = no (sym w ∙ ap (λ (x : Span). x.has) e)
-  next-span (I64 k a y) x h e w = no (sym w ∙ ap (λ (x : Span). x.has) e)
-  next-span (I32 k a y) x h e w = no (sym w ∙ ap (λ (x : Span). x.has) e)
-  next-span NoField x h e w = no (sym w ∙ ap (λ (x : Span). x.has) e)
-
-  none-span : (f : Found) (x : Span) → NextIs m n f → x ≡ span_of f → x.has ≡ false → WellFramed m → parts_in n m ≡ []
-  none-span (Len k a l y) x h e w g = no (sym (ap (λ (x : Span). x.has) e) ∙ w)
-  none-span (Varint k v y) x h e w g = ap parts_of (h.first g)
-  none-span (I64 k a y) x h e w g = ap parts_of (h.first g)
-  none-span (I32 k a y) x h e w g = ap parts_of (h.first g)
-  none-span NoField x h e w g = ap parts_of (h.last refl g)
-
-  pub no_span : (f : Found) (x : Span) (a b : Part) → NextIs m n f → x ≡ span_of f → x.has ≡ false → a ≡ no_part → b ≡ no_part → NextPartIs s left n (record { part = a; rest = b })
-  no_span f x a b h e w p q =
-      subst (λ (a : Part). NextPartIs s left n (record { part = a; rest = b })) (sym p)
-      (subst (λ (b : Part). NextPartIs s left n (record { part = no_part; rest = b })) (sym q) (no-spans (none-span f x h e w)))
+      go : (o : Held) → (WellFramed m → values_in n m ≡ value_of_held m o ∷ values_in n (drop f.next m)) → ((a l : ℕ) → o ≡ Len a l → ⊥) → NextPartIs s left n None
+      go (Len a l) h e = absurd (e a l refl)
+      go (Varint v) h e = λ w. ap parts_of (h w)
+      go (I64 a) h e = λ w. ap parts_of (h w)
+      go (I32 a) h e = λ w. ap parts_of (h w)
 
   -- a number
-  words : (v x : ℕ) → 0 < x → x ≤ length m → (WellFramed m → values_in n m ≡ vint v ∷ values_in n (drop x m)) → (WellFramed m → WellFramed (drop x m))
-      → NextNumIs s left n (record { num = record { has = true; value = v }; rest = record { has = true; start = left.start + x; len = left.len - x } })
-  words v x z y h g =
-      let len = length_at s left i in
-      let r = rest_at s left x i (omega arith) in
-      record {
-        inside = omega arith;
-        shorter = λ w. omega arith;
-        first = λ w. ap numbers_of (h w) ∙ ap (λ c. v ∷ numbers_in n c) (sym r);
-        framed = λ w. subst (λ (c : List ℕ). WellFramed c) (sym r) (g w);
-        last = λ w. no w;
-      }
+  pub next-word : (f : Found) {v : ℕ} → NextIs m n f → f.held ≡ Varint v → NextNumIs s left n (Some (v, at f.next))
+  next-word f {v} h e =
+      let q = ap (λ (o : Held). numbers_of (value_of_held m o ∷ values_in n (drop f.next m))) e in
+      next-at (numbers_in n) v f.next h.ends.after h.ends.inside (λ w. ap numbers_of (h.first w) ∙ q) h.framed
 
-  pub bounds-word : (f : Found) (x : Word) → NextIs m n f → x ≡ word_of f → x.has ≡ true → x.next ≤ left.len
-  bounds-word (Varint k v y) x h e w =
-      let d = h.ends in
-      let len = length_at s left i in
-      subst (λ (x : Word). x.next ≤ left.len) (sym e) (omega (arith, d.1))
-  bounds-word (I64 k a y) x h e w = no (sym w ∙ ap (λ (x : Word). x.has) e)
-  bounds-word (Len k a l y) x h e w = no (sym w ∙ ap (λ (x : Word). x.has) e)
-  bounds-word (I32 k a y) x h e w = no (sym w ∙ ap (λ (x : Word). x.has) e)
-  bounds-word NoField x h e w = no (sym w ∙ ap (λ (x : Word). x.has) e)
+  pub none-word : (WellFramed m → values_in n m ≡ []) → (r : Perhaps (ℕ × Part)) → r ≡ None → NextNumIs s left n r
+  none-word h r e = subst (λ (r : Perhaps (ℕ × Part)). NextNumIs s left n r) (sym e) (λ w. ap numbers_of (h w))
 
-  pub next_word : (f : Found) (x : Word) → NextIs m n f → x ≡ word_of f → x.has ≡ true
-      → NextNumIs s left n (record { num = record { has = true; value = x.value }; rest = record { has = true; start = left.start + x.next; len = left.len - x.next } })
-  next_word (Varint k v y) x h e w =
-      subst (λ (x : Word). NextNumIs s left n (record { num = record { has = true; value = x.value }; rest = record { has = true; start = left.start + x.next; len = left.len - x.next } }))
-      (sym e) (let d = h.ends in words v y (omega (arith, d.0)) d.1 h.first h.framed)
-  next_word (I64 k a y) x h e w = no (sym w ∙ ap (λ (x : Word). x.has) e)
-  next_word (Len k a l y) x h e w = no (sym w ∙ ap (λ (x : Word). x.has) e)
-  next_word (I32 k a y) x h e w = no (sym w ∙ ap (λ (x : Word). x.has) e)
-  next_word NoField x h e w = no (sym w ∙ ap (λ (x : Word). x.has) e)
-
-  none-word : (f : Found) (x : Word) → NextIs m n f → x ≡ word_of f → x.has ≡ false → WellFramed m → numbers_in n m ≡ []
-  none-word (Varint k v y) x h e w g = no (sym (ap (λ (x : Word). x.has) e) ∙ w)
-  none-word (I64 k a y) x h e w g = ap numbers_of (h.first g)
-  none-word (Len k a l y) x h e w g = ap numbers_of (h.first g)
-  none-word (I32 k a y) x h e w g = ap numbers_of (h.first g)
-  none-word NoField x h e w g = ap numbers_of (h.last refl g)
-
-  pub no_word : (f : Found) (x : Word) (b : Part) → NextIs m n f → x ≡ word_of f → x.has ≡ false → b ≡ no_part
-      → NextNumIs s left n (record { num = record { has = false; value = 0 }; rest = b })
-  no_word f x b h e w q =
-      subst (λ (b : Part). NextNumIs s left n (record { num = record { has = false; value = 0 }; rest = b })) (sym q)
-      (record {
-        inside = omega arith;
-        shorter = λ w. no (sym w);
-        first = λ g. none-word f x h e w g ∙ sym (ap numbers_of (none_left s n));
-        framed = λ g. nil-framed s;
-        last = λ g. ap numbers_of (none_left s n);
-      })
+  pub no-word : (f : Found) → NextIs m n f → ((v : ℕ) → f.held ≡ Varint v → ⊥) → NextNumIs s left n None
+  no-word f h e = go f.held h.first e
+    where
+      go : (o : Held) → (WellFramed m → values_in n m ≡ value_of_held m o ∷ values_in n (drop f.next m)) → ((v : ℕ) → o ≡ Varint v → ⊥) → NextNumIs s left n None
+      go (Varint v) h e = absurd (e v refl)
+      go (I64 a) h e = λ w. ap numbers_of (h w)
+      go (Len a l) h e = λ w. ap numbers_of (h w)
+      go (I32 a) h e = λ w. ap numbers_of (h w)

@@ -1,9 +1,9 @@
 -- The messages of one number, one after another: what has been made of those passed, joined, and those to come.
-use Rattle.std.specs.Prelude.{ℕ, ◌≤◌, ◌≡◌, refl, List, [], ◌∷◌, Bool, true, false, take, drop}
+use Rattle.std.specs.Prelude.{ℕ, ◌≤◌, ◌≡◌, refl, List, [], ◌∷◌, take, drop, Some, None}
 use Rattle.std.proofs.Common.{arith, sym, ap, ◌∙◌, subst}
 use Rattle.fields_wire.specs.Wire.{fields_of, fields_in}
 use Rattle.fields_schema.specs.Rules.{rule_of}
-use Rattle.fields_schema.specs.Tree.{Tree, done, join, sub_at, tree_in, cons_if}
+use Rattle.fields_schema.specs.Tree.{Tree, done, join, sub_at, tree_in}
 use Rattle.fields_schema.proofs.MergedLaws.{join-assoc, join-done, join-all, sub-all}
 use Rattle.fields_schema.specs.Merged.{join_all}
 use Rattle.fields_schema.specs.PutIn.{Has}
@@ -14,7 +14,6 @@ use Rattle.fields_lookup.specs.declared.parts.Part.{Part}
 use Rattle.fields_repeated.specs.Values.{values_in, parts_in, parts_of, NextPartIs}
 use Rattle.fields_repeated.specs.Repeated.{trees_of, AllRead}
 use Rattle.fields_repeated.specs.RepeatedLaws.{repeated-subs, repeated-reads, reads-framed}
-use Rattle.fields_repeated.specs.declared.NextPart.{NextPart}
 use Rattle.fields_repeated.specs.Joins.{Joins}
 
 -- all messages of the number in the message of kind k' in p, after those that t joins
@@ -40,35 +39,28 @@ unfolding bytes_at
 empty-part s left h = let z : left.len ≡ 0 = omega arith in ap (λ (n : ℕ). take n (drop left.start s)) z
 
 module _ {P : Tree → Type 0} {k : Kind} {n : ℕ} {s : List ℕ} {left : Part} {goal : Tree} (w : Joins P k n s left goal) where
-  ends : parts_in n (bytes_at s left) ≡ [] → P goal
-  ends e = subst P (sym (ap (λ bs. join_all w.past (trees_of k bs)) e) ∙ w.same) w.says
+  pub joins-end : NextPartIs s left n None → P goal
+  joins-end h = subst P (sym (ap (λ bs. join_all w.past (trees_of k bs)) (h w.framed)) ∙ w.same) w.says
 
   pub joins-empty : left.len ≤ 0 → P goal
-  joins-empty h = ends (ap (λ (b : List ℕ). parts_in n b) (empty-part s left h) ∙ ap parts_of (nil-values n))
+  joins-empty h = joins-end (λ g. ap (λ (b : List ℕ). parts_in n b) (empty-part s left h) ∙ ap parts_of (nil-values n))
 
-  module _ (x : NextPart) (h : NextPartIs s left n x) where
-    next : (b : Bool) → x.part.has ≡ b → parts_in n (bytes_at s left) ≡ cons_if b (bytes_at s x.part) (parts_in n (bytes_at s x.rest))
-    next b e = h.first w.framed ∙ ap (λ (b : Bool). cons_if b (bytes_at s x.part) (parts_in n (bytes_at s x.rest))) e
+  module _ (part rest : Part) (h : NextPartIs s left n (Some (part, rest))) where
+    all_read : AllRead k (bytes_at s part ∷ parts_in n (bytes_at s rest))
+    all_read = subst (λ (l : List (List ℕ)). AllRead k l) (h.1.first w.framed) w.read
 
-    pub joins-end : x.part.has ≡ false → P goal
-    joins-end e = ends (next false e ∙ h.last e)
+    pub joins-reads : Inside s part × Reads k (bytes_at s part)
+    joins-reads = (h.0.inside, all_read.0)
 
-    module _ (e : x.part.has ≡ true) where
-      all_read : AllRead k (bytes_at s x.part ∷ parts_in n (bytes_at s x.rest))
-      all_read = subst (λ (l : List (List ℕ)). AllRead k l) (next true e) w.read
-
-      pub joins-reads : Inside s x.part × Reads k (bytes_at s x.part)
-      joins-reads = (h.lies.inside, all_read.0)
-
-      pub joins-on : (Q : Tree → Type 0) → ((t : Tree) → P t → Q (join t (tree_of k (bytes_at s x.part)))) → Joins Q k n s x.rest goal
-      joins-on Q f = record {
-        inside = h.inside;
-        framed = h.framed w.framed;
-        read = all_read.1;
-        past = join w.past (tree_of k (bytes_at s x.part));
-        says = f w.past w.says;
-        same = sym (ap (λ bs. join_all w.past (trees_of k bs)) (next true e)) ∙ w.same;
-      }
+    pub joins-on : (Q : Tree → Type 0) → ((t : Tree) → P t → Q (join t (tree_of k (bytes_at s part)))) → Joins Q k n s rest goal
+    joins-on Q f = record {
+      inside = h.1.inside;
+      framed = h.1.framed w.framed;
+      read = all_read.1;
+      past = join w.past (tree_of k (bytes_at s part));
+      says = f w.past w.says;
+      same = sym (ap (λ bs. join_all w.past (trees_of k bs)) (h.1.first w.framed)) ∙ w.same;
+    }
 
 -- nothing after; one more after
 pub after_none : {A : Type 0} (P : Tree → A → Type 0) (a : A) → After P a a done

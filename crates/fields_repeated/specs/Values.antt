@@ -1,17 +1,13 @@
 -- The values of one number, in order, and what the answers of the search for the next mean.
-use Rattle.std.specs.Prelude.{ℕ, ◌<◌, ◌≡◌, List, [], ◌∷◌, Bool, true, false, drop, eqb}
+use Rattle.std.specs.Prelude.{ℕ, ◌<◌, ◌≡◌, List, [], ◌∷◌, true, drop, eqb}
 use Rattle.std.proofs.Math.Option.{Option, none, some}
 use Rattle.fields_wire.specs.Wire.{Value, vint, v64, vlen, v32, Field, field, fields_of}
-use Rattle.fields_wire_reader.specs.FieldAnswer.{EndsFound, value_in, next_in}
+use Rattle.std.specs.Prelude.{Option as Perhaps, Some, None}
+use Rattle.fields_wire_reader.specs.FieldAnswer.{EndsFound, value_in}
 use Rattle.fields_wire_reader.specs.declared.Found.{Found}
-use Rattle.fields_wire_reader.specs.declared.Found.TheVariants.{Varint, I64, Len, I32, NoField}
 use Rattle.fields_schema.specs.Tree.{is_some, cons_if}
 use Rattle.fields_lookup.specs.Views.{bytes_at, Inside, Lies}
 use Rattle.fields_lookup.specs.declared.parts.Part.{Part}
-use Rattle.fields_repeated.specs.declared.NextPart.{NextPart}
-use Rattle.fields_repeated.specs.declared.Span.{Span}
-use Rattle.fields_repeated.specs.declared.Word.{Word}
-use Rattle.fields_repeated.specs.declared.NextNum.{NextNum}
 
 abbrev pub values_of : ℕ → List Field → List Value
 values_of n [] = []
@@ -49,52 +45,28 @@ numbers_in n m = numbers_of (values_in n m)
 abbrev pub WellFramed : List ℕ → Type 0
 WellFramed m = is_some (fields_of m) ≡ true
 
-abbrev pub is_field : Found → Bool
-is_field (Varint n v next) = true
-is_field (I64 n start next) = true
-is_field (Len n start len next) = true
-is_field (I32 n start next) = true
-is_field NoField = false
-
 -- the first value is what was found, and the others come after it
-pub record NextIs (s : List ℕ) (n : ℕ) (r : Found) : Type 0 where
-  pub ends : EndsFound s 0 r
-  pub first : WellFramed s → values_in n s ≡ cons_if (is_field r) (value_in s r) (values_in n (drop (next_in r) s))
-  pub framed : WellFramed s → WellFramed (drop (next_in r) s)
-  pub last : is_field r ≡ false → WellFramed s → values_in n s ≡ []
+pub record NextIs (s : List ℕ) (n : ℕ) (f : Found) : Type 0 where
+  pub ends : EndsFound s 0 f
+  pub first : WellFramed s → values_in n s ≡ value_in s f ∷ values_in n (drop f.next s)
+  pub framed : WellFramed s → WellFramed (drop f.next s)
 
-abbrev pub no_span : Span
-no_span = record { has = false; start = 0; len = 0; next = 0 }
+abbrev pub NextFound : List ℕ → ℕ → Perhaps Found → Type 0
+NextFound s n (Some f) = NextIs s n f
+NextFound s n None = WellFramed s → values_in n s ≡ []
 
-abbrev pub span_of : Found → Span
-span_of (Varint n v next) = no_span
-span_of (I64 n start next) = no_span
-span_of (Len n start len next) = record { has = true; start = start; len = len; next = next }
-span_of (I32 n start next) = no_span
-span_of NoField = no_span
+-- the first value is `head`, and the others lie in what is left, which is shorter
+pub record Next {A : Type 0} (values : List ℕ → List A) (s : List ℕ) (left rest : Part) (head : A) : Type 0 where
+  pub inside : Inside s rest
+  pub shorter : rest.len < left.len
+  pub first : WellFramed (bytes_at s left) → values (bytes_at s left) ≡ head ∷ values (bytes_at s rest)
+  pub framed : WellFramed (bytes_at s left) → WellFramed (bytes_at s rest)
 
-abbrev pub no_word : Word
-no_word = record { has = false; value = 0; next = 0 }
+-- of parts and of numbers; or there is none
+abbrev pub NextPartIs : List ℕ → Part → ℕ → Perhaps (Part × Part) → Type 0
+NextPartIs s left n None = WellFramed (bytes_at s left) → parts_in n (bytes_at s left) ≡ []
+NextPartIs s left n (Some (part, rest)) = Lies s part × Next (parts_in n) s left rest (bytes_at s part)
 
-abbrev pub word_of : Found → Word
-word_of (Varint n v next) = record { has = true; value = v; next = next }
-word_of (I64 n start next) = no_word
-word_of (Len n start len next) = no_word
-word_of (I32 n start next) = no_word
-word_of NoField = no_word
-
--- the first part is what was found, and the others lie in what is left, which is shorter
-pub record NextPartIs (s : List ℕ) (left : Part) (n : ℕ) (r : NextPart) : Type 0 where
-  pub lies : Lies s r.part
-  pub inside : Inside s r.rest
-  pub shorter : r.part.has ≡ true → r.rest.len < left.len
-  pub first : WellFramed (bytes_at s left) → parts_in n (bytes_at s left) ≡ cons_if r.part.has (bytes_at s r.part) (parts_in n (bytes_at s r.rest))
-  pub framed : WellFramed (bytes_at s left) → WellFramed (bytes_at s r.rest)
-  pub last : r.part.has ≡ false → parts_in n (bytes_at s r.rest) ≡ []
-
-pub record NextNumIs (s : List ℕ) (left : Part) (n : ℕ) (r : NextNum) : Type 0 where
-  pub inside : Inside s r.rest
-  pub shorter : r.num.has ≡ true → r.rest.len < left.len
-  pub first : WellFramed (bytes_at s left) → numbers_in n (bytes_at s left) ≡ cons_if r.num.has r.num.value (numbers_in n (bytes_at s r.rest))
-  pub framed : WellFramed (bytes_at s left) → WellFramed (bytes_at s r.rest)
-  pub last : r.num.has ≡ false → numbers_in n (bytes_at s r.rest) ≡ []
+abbrev pub NextNumIs : List ℕ → Part → ℕ → Perhaps (ℕ × Part) → Type 0
+NextNumIs s left n None = WellFramed (bytes_at s left) → numbers_in n (bytes_at s left) ≡ []
+NextNumIs s left n (Some (value, rest)) = Next (numbers_in n) s left rest value

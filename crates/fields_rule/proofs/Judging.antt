@@ -8,13 +8,13 @@ use mathlib.Core.Bool.{Bool, true, false, cond, ◌||◌}
 use mathlib.Core.Logic.{◌⊎◌, inl, inr, ⊎_elim}
 use lib.Dec.{eqb, ltb}
 use borrow.Author.Tests.{eqb-true, ne_eqb, ltb-true, ltb-false}
-use Rattle.fields_wire.specs.Wire.{field}
-use Rattle.fields_wire_reader.specs.FieldAnswer.{EndsFound, number_in, value_in}
+use Rattle.std.specs.Prelude.{Some, Ok, Err}
+use Rattle.fields_wire_reader.specs.FieldAnswer.{EndsFound, value_in}
 use Rattle.fields_wire_reader.specs.declared.Found.{Found}
 use Rattle.fields_schema.specs.Rules.{Table, end, row, look, table_of, rule_of, strict_of}
 use Rattle.fields_schema.specs.Tree.{is_some, Content, Item, item, decode, find, add, by_rule, step, later}
 use Rattle.base_definitions.specs.Bits.{bit}
-use Rattle.fields_rule.specs.Judged.{with_again, with_mark, is_single, listed_by, Marks, unlisted_of, field_in, Takes, Judges}
+use Rattle.fields_rule.specs.Judged.{with_again, with_mark, is_single, refusal, read_as, listed_by, Marks, field_in, Takes}
 use Rattle.fields_schema.proofs.OptionLaws.{none_of}
 use Rattle.fields_rule.specs.SoleLaws.{find-last, sole-snoc}
 use Rattle.fields_schema.specs.declared.Kind.{Kind}
@@ -22,12 +22,9 @@ use Rattle.fields_schema.specs.declared.Kind.TheVariants.{Message, HmacAuth, Com
 use Rattle.fields_schema.specs.declared.Form.{Form}
 use Rattle.fields_schema.specs.declared.Rule.{Rule}
 use Rattle.fields_schema.specs.declared.Rule.TheVariants.{Unlisted, Refused, Once, Single, Repeated}
-use Rattle.fields_value.specs.Taken.{means_taken, InsideTaken}
+use Rattle.fields_value.specs.Taken.{content_of, InsideTaken}
 use Rattle.fields_value.specs.declared.Taken.{Taken}
 use Rattle.fields_rule.specs.declared.Listed.{Listed}
-use Rattle.fields_rule.specs.declared.Listed.TheVariants.{Not, Never, As}
-use Rattle.fields_rule.specs.declared.Judged.{Judged}
-use Rattle.fields_rule.specs.declared.Judged.TheVariants.{Refuse, Skip}
 use Rattle.base_definitions.proofs.BitsLaws.{set-bit, bits_below}
 
 or-cond : (t b : Bool) → (t || b) ≡ cond t true b
@@ -196,114 +193,83 @@ marks-repeated k seen n is h z c = record {
 never : {A : Type 0} → ◌≡◌ {A = ℕ} 0 1 → A
 never z = absurd (omega arith)
 
-listed-not : (ρ : Rule) (seen n : ℕ) → listed_by ρ seen n ≡ Not → ρ ≡ Unlisted
-listed-not Unlisted seen n e = refl
-listed-not Refused seen n e = never (cc)
-listed-not (Once g) seen n e = go (bit seen n) e
-  where
-    go : (b : Bool) → cond b Never (As g (with_mark seen n)) ≡ Not → Once g ≡ Unlisted
-    go true e = never (cc)
-    go false e = never (cc)
-listed-not (Single g) seen n e = never (cc)
-listed-not (Repeated g) seen n e = never (cc)
+abbrev AsOnce : Rule → ℕ → ℕ → Listed → Type 0
+AsOnce ρ seen n l = (ρ ≡ Once l.form) × (bit seen n ≡ false) × (l.seen ≡ with_mark seen n)
 
-listed-never : (ρ : Rule) (seen n : ℕ) → listed_by ρ seen n ≡ Never → (ρ ≡ Refused) ⊎ ((g : Form) × (ρ ≡ Once g) × (bit seen n ≡ true))
-listed-never Unlisted seen n e = never (cc)
-listed-never Refused seen n e = inl refl
-listed-never (Once g) seen n e = inr (g, refl, go (bit seen n) e)
-  where
-    go : (b : Bool) → cond b Never (As g (with_mark seen n)) ≡ Never → b ≡ true
-    go true e = refl
-    go false e = never (cc)
-listed-never (Single g) seen n e = never (cc)
-listed-never (Repeated g) seen n e = never (cc)
+abbrev AsSingle : Rule → ℕ → ℕ → Listed → Type 0
+AsSingle ρ seen n l = (ρ ≡ Single l.form) × (l.seen ≡ with_mark seen n)
 
-listed-as : (ρ : Rule) (seen n : ℕ) (h : Form) (next : ℕ) → listed_by ρ seen n ≡ As h next
-    → ((ρ ≡ Once h) × (bit seen n ≡ false) × (next ≡ with_mark seen n)) ⊎ (((ρ ≡ Single h) × (next ≡ with_mark seen n)) ⊎ ((ρ ≡ Repeated h) × (next ≡ seen)))
-listed-as Unlisted seen n h next e = never (cc)
-listed-as Refused seen n h next e = never (cc)
-listed-as (Once g) seen n h next e = go (bit seen n) refl e
+abbrev AsRepeated : Rule → ℕ → Listed → Type 0
+AsRepeated ρ seen l = (ρ ≡ Repeated l.form) × (l.seen ≡ seen)
+
+listed-as : (ρ : Rule) (seen n : ℕ) (l : Listed) → listed_by ρ seen n ≡ Ok (Some l) → AsOnce ρ seen n l ⊎ (AsSingle ρ seen n l ⊎ AsRepeated ρ seen l)
+listed-as Unlisted seen n l e = never (cc)
+listed-as Refused seen n l e = never (cc)
+listed-as (Once g) seen n l e = go (bit seen n) refl e
   where
-    go : (b : Bool) → bit seen n ≡ b → cond b Never (As g (with_mark seen n)) ≡ As h next
-        → ((Once g ≡ Once h) × (bit seen n ≡ false) × (next ≡ with_mark seen n)) ⊎ (((Once g ≡ Single h) × (next ≡ with_mark seen n)) ⊎ ((Once g ≡ Repeated h) × (next ≡ seen)))
+    go : (b : Bool) → bit seen n ≡ b → cond b (Err refusal) (read_as g (with_mark seen n)) ≡ Ok (Some l)
+        → AsOnce (Once g) seen n l ⊎ (AsSingle (Once g) seen n l ⊎ AsRepeated (Once g) seen l)
     go true q e = never (cc)
-    go false q e = let a : g ≡ h = cc in inl (ap Once a, q, cc)
-listed-as (Single g) seen n h next e = let a : g ≡ h = cc in inr (inl (ap Single a, cc))
-listed-as (Repeated g) seen n h next e = let a : g ≡ h = cc in inr (inr (ap Repeated a, cc))
+    go false q e =
+        let x : record { form = g; seen = with_mark seen n } ≡ l = cc in
+        inl (ap (λ (l : Listed). Once l.form) x, q, ap (λ (l : Listed). l.seen) (sym x))
+listed-as (Single g) seen n l e =
+    let x : record { form = g; seen = with_mark seen n } ≡ l = cc in
+    inr (inl (ap (λ (l : Listed). Single l.form) x, ap (λ (l : Listed). l.seen) (sym x)))
+listed-as (Repeated g) seen n l e =
+    let x : record { form = g; seen = seen } ≡ l = cc in
+    inr (inr (ap (λ (l : Listed). Repeated l.form) x, ap (λ (l : Listed). l.seen) (sym x)))
 
 -- a field by its rule -------------------------------------------------------------------
-module _ (k : Kind) (f : Found) (n : ℕ) (q : n ≡ number_in f) (ρ : Rule) (p : ρ ≡ rule_of k n) where
-  as-rule : (s : List ℕ) (is : List Item) (σ : Rule) {o : Option (List Item)} → ρ ≡ σ → by_rule σ (strict_of k) n (value_in s f) is ≡ o → step k (field_in s f) is ≡ o
-  as-rule s is σ {o} e h =
-      subst (λ (m : ℕ). step k (field m (value_in s f)) is ≡ o) q (ap (λ σ. by_rule σ (strict_of k) n (value_in s f) is) (sym p ∙ e) ∙ h)
-
-  judges-unlisted : (r : Judged) → ρ ≡ Unlisted → r ≡ unlisted_of k → (s : List ℕ) (is : List Item) → Judges s k is f r
-  judges-unlisted r e w s is = go (strict_of k) refl w
-    where
-      go : (b : Bool) → strict_of k ≡ b → r ≡ cond b Refuse Skip → Judges s k is f r
-      go true y z = subst (λ (r : Judged). Judges s k is f r) (sym z) (as-rule s is Unlisted e (ap (λ t. cond t none (some is)) y))
-      go false y z = subst (λ (r : Judged). Judges s k is f r) (sym z) (as-rule s is Unlisted e (ap (λ t. cond t none (some is)) y))
-
-  judges-refused : ρ ≡ Refused → (s : List ℕ) (is : List Item) → Judges s k is f Refuse
-  judges-refused e s is = as-rule s is Refused e refl
+module _ (k : Kind) (f : Found) (ρ : Rule) (p : ρ ≡ rule_of k f.number) where
+  as-rule : (s : List ℕ) (is : List Item) (σ : Rule) {o : Option (List Item)} → ρ ≡ σ → by_rule σ (strict_of k) f.number (value_in s f) is ≡ o → step k (field_in s f) is ≡ o
+  as-rule s is σ {o} e h = ap (λ σ. by_rule σ (strict_of k) f.number (value_in s f) is) (sym p ∙ e) ∙ h
 
   module _ (g : Form) (e : ρ ≡ Once g) where
-    single : is_single (rule_of k n) ≡ true
+    single : is_single (rule_of k f.number) ≡ true
     single = ap is_single (sym p ∙ e)
 
-    judges-twice : (seen : ℕ) (b : Bool) → b ≡ bit seen n → b ≡ true → (s : List ℕ) (is : List Item) → Marks k seen is → Judges s k is f Refuse
-    judges-twice seen b w y s is m =
-        as-rule s is (Once g) e (ap (λ t. cond t none (add n is (decode g (value_in s f)))) (sym (m.marks n single) ∙ sym w ∙ y))
+  -- by its form: what is added, and the marks then
+  pub record Adds (seen : ℕ) (l : Listed) (s : List ℕ) (is : List Item) : Type 0 where
+    pub below : f.number < 16
+    pub adds : step k (field_in s f) is ≡ add f.number is (decode l.form (value_in s f))
+    pub marked : (c : Content) → Marks k l.seen (is ++ (item f.number c ∷ []))
 
-    judges-once : (seen next : ℕ) (b : Bool) (w : Taken) → b ≡ bit seen n → b ≡ false → next ≡ with_mark seen n
-        → ((s : List ℕ) → means_taken s w ≡ decode g (value_in s f)) → ((s : List ℕ) (at : ℕ) → EndsFound s at f → InsideTaken s w)
-        → (s : List ℕ) (at : ℕ) (is : List Item) → EndsFound s at f → Marks k seen is → Takes s k is f n next w
-    judges-once seen next b w v y x d i s at is j m =
-        let z : bit seen n ≡ false = sym v ∙ y in
-        let o : find n is ≡ none = none_of (find n is) (sym (m.marks n single) ∙ z) in
-        record {
-          below = once-below k n p e;
-          adds = as-rule s is (Once g) e (ap (λ t. cond (is_some t) none (add n is (decode g (value_in s f)))) o ∙ ap (add n is) (sym (d s)));
-          inside = i s at j;
-          marked = λ c. subst (λ (x : ℕ). Marks k x (is ++ (item n c ∷ []))) (sym x) (marks-with k seen n is m (once-below k n p e) single c);
-        }
-
-  judges-single : (g : Form) → ρ ≡ Single g → (seen : ℕ) (w : Taken)
-      → ((s : List ℕ) → means_taken s w ≡ decode g (value_in s f)) → ((s : List ℕ) (at : ℕ) → EndsFound s at f → InsideTaken s w)
-      → (s : List ℕ) (at : ℕ) (is : List Item) → EndsFound s at f → Marks k seen is → Takes s k is f n (with_mark seen n) w
-  judges-single g e seen w d i s at is j m =
+  adds-once : (seen : ℕ) (l : Listed) → AsOnce ρ seen f.number l → (s : List ℕ) (is : List Item) → Marks k seen is → Adds seen l s is
+  adds-once seen l z s is m =
+      let o : find f.number is ≡ none = none_of (find f.number is) (sym (m.marks f.number (single l.form z.0)) ∙ z.1) in
       record {
-        below = single-below k n p e;
-        adds = as-rule s is (Single g) e (ap (add n is) (sym (d s)));
-        inside = i s at j;
-        marked = λ c. marks-with k seen n is m (single-below k n p e) (ap is_single (sym p ∙ e)) c;
+        below = once-below k f.number p z.0;
+        adds = as-rule s is (Once l.form) z.0 (ap (λ t. cond (is_some t) none (add f.number is (decode l.form (value_in s f)))) o);
+        marked = λ c. subst (λ (x : ℕ). Marks k x (is ++ (item f.number c ∷ []))) (sym z.2) (marks-with k seen f.number is m (once-below k f.number p z.0) (single l.form z.0) c);
       }
 
-  judges-repeated : (g : Form) → ρ ≡ Repeated g → (seen : ℕ) (w : Taken)
-      → ((s : List ℕ) → means_taken s w ≡ decode g (value_in s f)) → ((s : List ℕ) (at : ℕ) → EndsFound s at f → InsideTaken s w)
-      → (s : List ℕ) (at : ℕ) (is : List Item) → EndsFound s at f → Marks k seen is → Takes s k is f n seen w
-  judges-repeated g e seen w d i s at is j m =
-      let z : is_single (rule_of k n) ≡ false = ap is_single (sym p ∙ e) in
-      record {
-        below = repeated-below k n p e;
-        adds = as-rule s is (Repeated g) e (ap (add n is) (sym (d s)));
-        inside = i s at j;
-        marked = λ c. marks-repeated k seen n is m z c;
-      }
+  adds-single : (seen : ℕ) (l : Listed) → AsSingle ρ seen f.number l → (s : List ℕ) (is : List Item) → Marks k seen is → Adds seen l s is
+  adds-single seen l z s is m = record {
+    below = single-below k f.number p z.0;
+    adds = as-rule s is (Single l.form) z.0 refl;
+    marked = λ c. subst (λ (x : ℕ). Marks k x (is ++ (item f.number c ∷ []))) (sym z.1) (marks-with k seen f.number is m (single-below k f.number p z.0) (ap is_single (sym p ∙ z.0)) c);
+  }
+
+  adds-repeated : (seen : ℕ) (l : Listed) → AsRepeated ρ seen l → (s : List ℕ) (is : List Item) → Marks k seen is → Adds seen l s is
+  adds-repeated seen l z s is m = record {
+    below = repeated-below k f.number p z.0;
+    adds = as-rule s is (Repeated l.form) z.0 refl;
+    marked = λ c. subst (λ (x : ℕ). Marks k x (is ++ (item f.number c ∷ []))) (sym z.1) (marks-repeated k seen f.number is m (ap is_single (sym p ∙ z.0)) c);
+  }
 
   -- by what is listed
-  module _ (seen : ℕ) {l : Listed} (t : l ≡ listed_by ρ seen n) where
-    pub judges-not : (r : Judged) → l ≡ Not → r ≡ unlisted_of k → (s : List ℕ) (is : List Item) → Judges s k is f r
-    judges-not r e = judges-unlisted r (listed-not ρ seen n (sym t ∙ e))
+  module _ (seen : ℕ) where
+    adds-as : (l : Listed) → Ok (Some l) ≡ listed_by ρ seen f.number → (s : List ℕ) (is : List Item) → Marks k seen is → Adds seen l s is
+    adds-as l t s is m =
+        ⊎_elim (λ z. adds-once seen l z s is m) (λ y. ⊎_elim (λ z. adds-single seen l z s is m) (λ z. adds-repeated seen l z s is m) y) (listed-as ρ seen f.number l (sym t))
 
-    pub judges-never : l ≡ Never → (s : List ℕ) (is : List Item) → Marks k seen is → Judges s k is f Refuse
-    judges-never e s is m =
-        ⊎_elim (λ z. judges-refused z s is) (λ z. judges-twice z.0 z.1 seen true (sym z.2) refl s is m) (listed-never ρ seen n (sym t ∙ e))
+    module _ (l : Listed) (t : Ok (Some l) ≡ listed_by ρ seen f.number) where
+      pub judges-wrong : ((s : List ℕ) → none ≡ decode l.form (value_in s f)) → (s : List ℕ) (is : List Item) → Marks k seen is → step k (field_in s f) is ≡ none
+      judges-wrong d s is m = (adds-as l t s is m).adds ∙ ap (add f.number is) (sym (d s))
 
-    pub judges-as : (g : Form) (next : ℕ) (w : Taken) → l ≡ As g next
-        → ((s : List ℕ) → means_taken s w ≡ decode g (value_in s f)) → ((s : List ℕ) (at : ℕ) → EndsFound s at f → InsideTaken s w)
-        → (s : List ℕ) (at : ℕ) (is : List Item) → EndsFound s at f → Marks k seen is → Takes s k is f n next w
-    judges-as g next w e d i s at is j m =
-        ⊎_elim (λ z. judges-once g z.0 seen next false w (sym z.1) refl z.2 d i s at is j m)
-        (λ y. ⊎_elim (λ z. subst (λ (x : ℕ). Takes s k is f n x w) (sym z.1) (judges-single g z.0 seen w d i s at is j m))
-        (λ z. subst (λ (x : ℕ). Takes s k is f n x w) (sym z.1) (judges-repeated g z.0 seen w d i s at is j m)) y) (listed-as ρ seen n g next (sym t ∙ e))
+      pub judges-as : (w : Taken) → ((s : List ℕ) → some (content_of s w) ≡ decode l.form (value_in s f)) → ((s : List ℕ) (at : ℕ) → EndsFound s at f → InsideTaken s w)
+          → (s : List ℕ) (at : ℕ) (is : List Item) → EndsFound s at f → Marks k seen is → Takes s k is f (record { number = f.number; seen = l.seen; what = w })
+      judges-as w d i s at is j m =
+          let a = adds-as l t s is m in
+          record { below = a.below; adds = a.adds ∙ ap (add f.number is) (sym (d s)); inside = i s at j; marked = a.marked }

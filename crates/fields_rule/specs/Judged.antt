@@ -1,21 +1,20 @@
 -- What the answers of the code on one field mean over the bytes s that it was read from.
-use Rattle.std.specs.Prelude.{ℕ, ◌+◌, ◌^◌, ◌<◌, ◌≡◌, List, [], ◌∷◌, ◌++◌, Bool, true, false, cond, eqb}
+use Rattle.std.specs.Prelude.{ℕ, ◌+◌, ◌^◌, ◌<◌, ◌≡◌, List, [], ◌∷◌, ◌++◌, Bool, true, false, cond, eqb, Option, Some, None, Result, Ok, Err}
 use Rattle.std.proofs.Math.Option.{none, some}
 use Rattle.fields_wire.specs.Wire.{Field, field}
-use Rattle.fields_wire_reader.specs.FieldAnswer.{number_in, value_in}
+use Rattle.fields_wire_reader.specs.FieldAnswer.{value_in}
 use Rattle.fields_wire_reader.specs.declared.Found.{Found}
 use Rattle.fields_schema.specs.Rules.{strict_of, rule_of}
-use Rattle.fields_schema.specs.Tree.{is_some, Content, Item, item, find, add, step}
+use Rattle.fields_schema.specs.Tree.{is_some, Content, Item, item, find, step}
 use Rattle.fields_schema.specs.declared.Kind.{Kind}
+use Rattle.fields_schema.specs.declared.Form.{Form}
 use Rattle.fields_schema.specs.declared.Rule.{Rule}
 use Rattle.fields_schema.specs.declared.Rule.TheVariants.{Unlisted, Refused, Once, Single, Repeated}
-use Rattle.fields_value.specs.Taken.{means_taken, InsideTaken}
-use Rattle.fields_value.specs.declared.Taken.{Taken}
+use Rattle.fields_value.specs.Taken.{content_of, InsideTaken}
+use Rattle.fields_rule.specs.declared.Refusal.{Refusal}
 use Rattle.fields_rule.specs.declared.Listed.{Listed}
-use Rattle.fields_rule.specs.declared.Listed.TheVariants.{Not, Never, As}
-use Rattle.fields_rule.specs.declared.Judged.{Judged}
+use Rattle.fields_rule.specs.declared.Take.{Take}
 use Rattle.base_definitions.specs.Bits.{bit}
-use Rattle.fields_rule.specs.declared.Judged.TheVariants.{Refuse, Skip, Take}
 
 abbrev pub is_single : Rule → Bool
 is_single Unlisted = false
@@ -43,28 +42,34 @@ pub record Marks (k : Kind) (seen : ℕ) (is : List Item) : Type 0 where
   pub marks : (n : ℕ) → is_single (rule_of k n) ≡ true → bit seen n ≡ is_some (find n is)
   pub alone : bit seen 0 ≡ false → (n : ℕ) → is_single (rule_of k n) ≡ true → Sole n is
 
--- what a rule says of the number n, after the marks; document 02, CR 5: "Security sent twice, a second singular field inside it … stay refused"
-abbrev pub listed_by : Rule → ℕ → ℕ → Listed
-listed_by Unlisted seen n = Not
-listed_by Refused seen n = Never
-listed_by (Once f) seen n = cond (bit seen n) Never (As f (with_mark seen n))
-listed_by (Single f) seen n = As f (with_mark seen n)
-listed_by (Repeated f) seen n = As f seen
+abbrev pub refusal : Refusal
+refusal = record {}
 
-abbrev pub unlisted_of : Kind → Judged
-unlisted_of k = cond (strict_of k) Refuse Skip
+abbrev pub read_as : Form → ℕ → Result (Option Listed) Refusal
+read_as f seen = Ok (Some (record { form = f; seen = seen }))
+
+-- what a rule says of the number n, after the marks; document 02, CR 5: "Security sent twice, a second singular field inside it … stay refused"
+abbrev pub listed_by : Rule → ℕ → ℕ → Result (Option Listed) Refusal
+listed_by Unlisted seen n = Ok None
+listed_by Refused seen n = Err refusal
+listed_by (Once f) seen n = cond (bit seen n) (Err refusal) (read_as f (with_mark seen n))
+listed_by (Single f) seen n = read_as f (with_mark seen n)
+listed_by (Repeated f) seen n = read_as f seen
+
+abbrev pub unlisted_of : Kind → Result (Option Take) Refusal
+unlisted_of k = cond (strict_of k) (Err refusal) (Ok None)
 
 abbrev pub field_in : List ℕ → Found → Field
-field_in s f = field (number_in f) (value_in s f)
+field_in s f = field f.number (value_in s f)
 
--- a listed field: the item that it adds, if it is not refused
-pub record Takes (s : List ℕ) (k : Kind) (is : List Item) (f : Found) (n seen : ℕ) (w : Taken) : Type 0 where
-  pub below : n < 16
-  pub adds : step k (field_in s f) is ≡ add n is (means_taken s w)
-  pub inside : InsideTaken s w
-  pub marked : (c : Content) → Marks k seen (is ++ (item n c ∷ []))
+-- a listed field: the item that it adds
+pub record Takes (s : List ℕ) (k : Kind) (is : List Item) (f : Found) (t : Take) : Type 0 where
+  pub below : t.number < 16
+  pub adds : step k (field_in s f) is ≡ some (is ++ (item t.number (content_of s t.what) ∷ []))
+  pub inside : InsideTaken s t.what
+  pub marked : (c : Content) → Marks k t.seen (is ++ (item t.number c ∷ []))
 
-abbrev pub Judges : List ℕ → Kind → List Item → Found → Judged → Type 0
-Judges s k is f Refuse = step k (field_in s f) is ≡ none
-Judges s k is f Skip = step k (field_in s f) is ≡ some is
-Judges s k is f (Take n seen w) = Takes s k is f n seen w
+abbrev pub Judges : List ℕ → Kind → List Item → Found → Result (Option Take) Refusal → Type 0
+Judges s k is f (Err e) = step k (field_in s f) is ≡ none
+Judges s k is f (Ok None) = step k (field_in s f) is ≡ some is
+Judges s k is f (Ok (Some t)) = Takes s k is f t

@@ -11,26 +11,25 @@ use fields_schema::{Form, Kind, Rule};
 use fields_schema_strict::strict;
 use fields_schema_table::rule_of;
 use fields_value::{Taken, take_value};
-use fields_wire_reader::{Found, number_of};
+use fields_wire_reader::Found;
 
-// A number that is not listed; one that is refused; or how its field is read, with the marks of the singular numbers up to it.
-#[derive(Drop)]
-pub enum Listed {
-    Not,
-    Never,
-    As { form: Form, seen: u64 },
+// A message is refused: for a field that may not be there, or not again, or not so.
+#[derive(Clone, Copy, Debug, PartialEq, Eq)]
+pub struct Refusal;
+
+// How a listed field is read, with the marks of the singular numbers up to it.
+#[derive(Clone, Copy)]
+pub struct Listed {
+    pub form: Form,
+    pub seen: u64,
 }
 
-// Refused; skipped; or a listed field, with the marks of the singular numbers up to it.
-#[derive(Drop)]
-pub enum Judged {
-    Refuse,
-    Skip,
-    Take {
-        number: usize,
-        seen: u64,
-        what: Taken,
-    },
+// A listed field: its number, what it holds, and the marks of the singular numbers up to it.
+#[derive(Clone, Copy)]
+pub struct Take {
+    pub number: usize,
+    pub seen: u64,
+    pub what: Taken,
 }
 
 // Whether number n has come.
@@ -70,53 +69,57 @@ fn with_mark(seen: u64, n: u64) -> u64
     mark(seen, n)
 }
 
-fn unlisted(kind: Kind) -> Judged
+// A field that is not listed is skipped, but for a strict kind.
+fn unlisted(kind: Kind) -> Result<Option<Take>, Refusal>
     ensures { result ≡ unlisted_of kind }
 {
     if strict(kind) {
-        return Judged::Refuse;
+        return Err(Refusal);
     }
-    Judged::Skip
+    Ok(None)
 }
 
-// What the table's rule says of number n, after those whose singular numbers are marked in `seen`.
-fn by_rule(r: Rule, seen: u64, n: u64) -> Listed
+// What the table's rule says of number n, after those whose singular numbers are marked in `seen`: how it is read, if it is listed.
+fn by_rule(r: Rule, seen: u64, n: u64) -> Result<Option<Listed>, Refusal>
     requires { (seen < 65536) × (is_single r ≡ true → n < 16) }
     ensures { result ≡ listed_by r seen n }
 {
     match r {
-        Rule::Unlisted => Listed::Not,
-        Rule::Refused => Listed::Never,
+        Rule::Unlisted => Ok(None),
+        Rule::Refused => Err(Refusal),
         Rule::Once(form) => {
             if marked(seen, n) {
-                return Listed::Never;
+                return Err(Refusal);
             }
-            Listed::As {
+            Ok(Some(Listed {
                 form,
                 seen: with_mark(seen, n),
-            }
+            }))
         }
-        Rule::Single(form) => Listed::As {
+        Rule::Single(form) => Ok(Some(Listed {
             form,
             seen: with_mark(seen, n),
-        },
-        Rule::Repeated(form) => Listed::As { form, seen },
+        })),
+        Rule::Repeated(form) => Ok(Some(Listed { form, seen })),
     }
 }
 
-// A field after those whose singular numbers are marked in `seen`. What it holds is read in one place, so that the compiler does so here.
-pub fn judge(kind: Kind, seen: u64, f: Found) -> Judged
+// A field after those whose singular numbers are marked in `seen`; none where it is skipped.
+// What it holds is read in one place, so that the compiler does so here.
+pub fn judge(kind: Kind, seen: u64, f: Found) -> Result<Option<Take>, Refusal>
     requires { seen < 65536 }
     ensures { (s : List ℕ) (at : ℕ) (is : List Item) → EndsFound s at f → Marks kind seen is → Judges s kind is f result }
 {
-    let n = number_of(f);
-    match by_rule(rule_of(kind, n), seen, n) {
-        Listed::Not => unlisted(kind),
-        Listed::Never => Judged::Refuse,
-        Listed::As { form, seen: after } => Judged::Take {
-            number: n as usize,
-            seen: after,
-            what: take_value(form, f),
-        },
-    }
+    let n = f.number;
+    let Some(listed) = by_rule(rule_of(kind, n), seen, n)? else {
+        return unlisted(kind);
+    };
+    let Some(what) = take_value(listed.form, f) else {
+        return Err(Refusal);
+    };
+    Ok(Some(Take {
+        number: n as usize,
+        seen: listed.seen,
+        what,
+    }))
 }

@@ -1,7 +1,8 @@
 -- Laws on fields at a place of a slice.
 use Prim.Native.Nat.{ℕ, ◌+◌, ◌-◌, ◌/◌, ◌%◌, ◌^◌, ◌≤◌, ◌<◌}
 use native.Mathlib.Omega.{arith}
-use mathlib.Core.Path.{◌≡◌, refl}
+use mathlib.Core.Path.{◌≡◌, refl, sym, subst}
+use mathlib.Core.Logic.{◌⊎◌, inl, inr}
 use mathlib.Core.List.{List, [], ◌∷◌}
 use mathlib.Core.Option.{none, some}
 use lib.ListN.{length, take, drop, length-drop}
@@ -9,9 +10,11 @@ use lib.Seq.{drop-cons, drop-drop}
 use borrow.Author.Tests.{lt-ltb, le-ltb, le-leb, lt-leb, ne_eqb}
 use Rattle.fields_wire.specs.Reader.{Got, nothing, got, part}
 use Rattle.fields_wire.specs.Wire.{varint, Field, field, vint, v64, vlen, v32, value_of, read_field, fields_in, fields_of}
-use Rattle.fields_wire_reader.specs.FieldAnswer.{means_found, EndsFound, number_in, value_in, next_in}
+use Rattle.std.specs.Prelude.{Option, Some, None, IfSome}
+use Rattle.fields_wire_reader.specs.FieldAnswer.{means_found, BytesLie, EndsFound}
 use Rattle.fields_wire_reader.specs.declared.Found.{Found}
-use Rattle.fields_wire_reader.specs.declared.Found.TheVariants.{Varint, I64, Len, I32, NoField}
+use Rattle.fields_wire_reader.specs.declared.Held.{Held}
+use Rattle.fields_wire_reader.specs.declared.Held.TheVariants.{Varint, I64, Len, I32}
 
 part_at : (n : ℕ) (s : List ℕ) (at : ℕ) → n ≤ length s - at → part n (drop at s) ≡ got (take n (drop at s)) (drop (at + n) s)
 part_at n s at h = rw (length-drop at s, le-leb _ _ h, drop-drop n at s)
@@ -72,42 +75,28 @@ pub field-none : (xs : List ℕ) → varint xs ≡ nothing → nothing ≡ read_
 unfolding read_field
 field-none xs e = rw e
 
-pub field-big : (xs : List ℕ) {t : ℕ} {r : List ℕ} → varint xs ≡ got t r → 2 ^ 32 ≤ t → nothing ≡ read_field xs
+pub field-refused : (xs : List ℕ) {t : ℕ} {r : List ℕ} → varint xs ≡ got t r → (t < 8) ⊎ ((8 ≤ t) × (2 ^ 32 ≤ t)) → nothing ≡ read_field xs
 unfolding read_field
-field-big xs {t} e h = rw (e, le-ltb t (2 ^ 32) h)
+field-refused xs {t} e (inl h) = rw (e, lt-ltb t (2 ^ 32) (omega arith), le-ltb 7 t (omega arith))
+field-refused xs {t} e (inr h) = rw (e, le-ltb t (2 ^ 32) h.1)
 
-pub field-zero : (xs : List ℕ) {t : ℕ} {r : List ℕ} → varint xs ≡ got t r → t < 2 ^ 32 → t ≤ 7 → nothing ≡ read_field xs
-unfolding read_field
-field-zero xs {t} e h l = rw (e, lt-ltb t (2 ^ 32) h, le-ltb 7 t l)
+-- a field that is inside the part after `b` is inside the part after an earlier place
+bytes-later : (a b next : ℕ) (h : Held) → a ≤ b → BytesLie b next h → BytesLie a next h
+bytes-later a b next (Varint v) l e = tt
+bytes-later a b next (I64 start) l e = tt
+bytes-later a b next (Len start len) l e = (e.0, omega (arith, e.1))
+bytes-later a b next (I32 start) l e = e
 
--- a field that is inside the part after `a` is inside the part after an earlier place
-pub ends-later : (s : List ℕ) (a b : ℕ) (r : Found) → a ≤ b → EndsFound s b r → EndsFound s a r
-ends-later s a b (Varint n v next) l h = (omega arith, h.1)
-ends-later s a b (I64 n start next) l h = (omega arith, h.1)
-ends-later s a b (Len n start len next) l h = (omega arith, h.1, h.2, omega arith)
-ends-later s a b (I32 n start next) l h = (omega arith, h.1, h.2)
-ends-later s a b NoField l h = tt
+pub found-later : (s : List ℕ) (a b : ℕ) (f : Found) → a ≤ b → EndsFound s b f → EndsFound s a f
+found-later s a b f l e = record { after = omega (arith, e.after); inside = e.inside; bytes = bytes-later a b f.next f.held l e.bytes }
 
-pub found-got : (s : List ℕ) (at : ℕ) (f : Found) → at < next_in f → means_found s f ≡ got (field (number_in f) (value_in s f)) (drop (next_in f) s)
-found-got s at (Varint n v next) l = refl
-found-got s at (I64 n start next) l = refl
-found-got s at (Len n start len next) l = refl
-found-got s at (I32 n start next) l = refl
-found-got s at NoField l = absurd (omega arith)
+pub ends-later : (s : List ℕ) (a b : ℕ) (r : Option Found) → a ≤ b → IfSome r (EndsFound s b) → IfSome r (EndsFound s a)
+ends-later s a b (Some f) l h = found-later s a b f l h
+ends-later s a b None l h = tt
 
-pub found_none : (s : List ℕ) (at : ℕ) (f : Found) → EndsFound s at f → next_in f ≤ at → means_found s f ≡ nothing
-found_none s at (Varint n v next) h l = absurd (omega arith)
-found_none s at (I64 n start next) h l = absurd (omega arith)
-found_none s at (Len n start len next) h l = absurd (omega arith)
-found_none s at (I32 n start next) h l = absurd (omega arith)
-found_none s at NoField h l = refl
-
-pub found_in : (s : List ℕ) (at : ℕ) (f : Found) → EndsFound s at f → next_in f ≤ length s
-found_in s at (Varint n v next) h = h.1
-found_in s at (I64 n start next) h = h.1
-found_in s at (Len n start len next) h = h.1
-found_in s at (I32 n start next) h = h.1
-found_in s at NoField h = omega arith
+-- a `?` that leaves
+pub no-found : (s : List ℕ) (at : ℕ) {o : Got Field} (r : Option Found) → r ≡ None → nothing ≡ o → (means_found s r ≡ o) × IfSome r (EndsFound s at)
+no-found s at {o} r e h = subst (λ (r : Option Found). (means_found s r ≡ o) × IfSome r (EndsFound s at)) (sym e) (h, tt)
 
 fields-fail : (b : ℕ) (xs : List ℕ) → read_field (b ∷ xs) ≡ nothing → fields_of (b ∷ xs) ≡ none
 unfolding fields_of fields_in

@@ -1,13 +1,12 @@
 -- The bytes of a tree in parts, and a writing of each part in front of the rest.
-use Rattle.std.specs.Prelude.{ℕ, zero, suc, ◌-◌, ◌≤◌, ◌≡◌, refl, List, [], ◌∷◌, ◌++◌, length, drop, get_or}
+use Rattle.std.specs.Prelude.{ℕ, zero, suc, ◌-◌, ◌≤◌, ◌≡◌, refl, List, [], ◌∷◌, ◌++◌, length, drop, get_or, Some, None}
 use Rattle.std.proofs.Common.{arith, sym, ap, ◌∙◌, append-nil, append_assoc, drop-cons}
 use Rattle.std.proofs.Math.Option.{Option, none, some}
 use Rattle.fields_schema.specs.Tree.{Tree, done, int, raw, fix, sub}
 use Rattle.fields_encoding.specs.Encode.{int_field, head, len_field, fix_field, encode, int_o, int_if, raw_if, fix_o, each, sub_o, each_sub}
 use Rattle.fields_write_bytes.specs.Pushed.{Pushed, maybe}
 use Rattle.fields_write_bytes.proofs.PushedLaws.{◌onto◌, again, pushed-sub}
-use Rattle.fields_write_bytes.specs.declared.Maybe.{Maybe}
-use Rattle.fields_write_bytes.specs.declared.Maybe.TheVariants.{Nothing, Number}
+use Rattle.std.specs.Prelude as code
 
 pub int-done : (n v : ℕ) → encode (int n v done) ≡ int_field n v
 unfolding encode
@@ -125,13 +124,13 @@ each_pushed n bs i t h k p q =
 
 -- fields left out --------------------------------------------------------------------------
 
-pub maybe-nothing : (n : ℕ) (m : Maybe) → Nothing ≡ m → [] ≡ encode (int_o n (maybe m) done)
+pub maybe-nothing : (n : ℕ) (m : code.Option ℕ) → None ≡ m → [] ≡ encode (int_o n (maybe m) done)
 unfolding encode int_o
-maybe-nothing n m e = ap (λ (m : Maybe). encode (int_o n (maybe m) done)) e
+maybe-nothing n m e = ap (λ (m : code.Option ℕ). encode (int_o n (maybe m) done)) e
 
-pub maybe-number : (n v : ℕ) (m : Maybe) → Number v ≡ m → int_field n v ≡ encode (int_o n (maybe m) done)
+pub maybe-number : (n v : ℕ) (m : code.Option ℕ) → Some v ≡ m → int_field n v ≡ encode (int_o n (maybe m) done)
 unfolding int_o
-maybe-number n v m e = sym (int-done n v) ∙ ap (λ (m : Maybe). encode (int_o n (maybe m) done)) e
+maybe-number n v m e = sym (int-done n v) ∙ ap (λ (m : code.Option ℕ). encode (int_o n (maybe m) done)) e
 
 pub zero-none : (n v : ℕ) → v ≡ 0 → [] ≡ encode (int_if n v done)
 unfolding encode int_if

@@ -1,8 +1,7 @@
 -- What a writer does to a lent buffer.
-use Rattle.std.specs.Prelude.{ℕ, ◌+◌, ◌≤◌, ◌≡◌, List, ◌++◌, length, take, drop}
+use Rattle.std.specs.Prelude.{ℕ, ◌+◌, ◌≤◌, ◌≡◌, List, ◌++◌, length, take, drop, Some, None}
+use Rattle.std.specs.Prelude as code
 use Rattle.std.proofs.Math.Option.{Option, none, some}
-use Rattle.fields_write_bytes.specs.declared.Maybe.{Maybe}
-use Rattle.fields_write_bytes.specs.declared.Maybe.TheVariants.{Nothing, Number}
 
 -- writing in front: the bytes bs are put right before the place `at`, and start at r; every other byte is as it was
 pub record Pushed (r at : ℕ) (bs before after : List ℕ) : Type 0 where
@@ -16,7 +15,7 @@ pub record Starts (r : ℕ) (bs before after : List ℕ) : Type 0 where
   pub next : r ≡ length bs
   pub same : after ≡ bs ++ drop r before
 
--- the number that the code's enum means, if any
-abbrev pub maybe : Maybe → Option ℕ
-maybe Nothing = none
-maybe (Number v) = some v
+-- the number that the code's Option means, if any
+abbrev pub maybe : code.Option ℕ → Option ℕ
+maybe None = none
+maybe (Some v) = some v

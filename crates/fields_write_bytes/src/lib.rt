@@ -5,13 +5,6 @@
 ghost use Rattle.std.specs.Prelude.{[], ◌∷◌, ◌≤◌, length};
 ghost use Rattle.fields_write_bytes.specs.Pushed.{Pushed, Starts};
 
-// A number, or none.
-#[derive(Drop)]
-pub enum Maybe {
-    Nothing,
-    Number(u64),
-}
-
 pub fn push_byte(out: &mut [u8], at: usize, b: u8) -> usize
     requires { (1 ≤ at) × (at ≤ length out.old) }
     ensures { Pushed result at (b ∷ []) out.old out.new }
@@ -27,11 +20,7 @@ pub fn push_bytes(out: &mut [u8], at: usize, src: &[u8]) -> usize
     ensures { Pushed result at src.now out.old out.new }
 {
     let p = at - src.len();
-    let mut i = 0;
-    while i < src.len() {
-        out[p + i] = src[i];
-        i += 1;
-    }
+    out[p..at].copy_from_slice(src);
     p
 }
 

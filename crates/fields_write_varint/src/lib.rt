@@ -7,17 +7,12 @@ ghost use Rattle.fields_write_bytes.specs.Pushed.{Pushed};
 
 use fields_write_bytes::push_byte;
 
-// How many bytes the shortest varint of `v` has.
+// How many bytes the shortest varint of `v` has: one for each seven bits.
 fn varint_len(v: u64) -> usize
     ensures { result ≡ length (varint_bytes v) }
 {
-    let mut n = 1;
-    let mut rest = v;
-    while 128 <= rest {
-        rest /= 128;
-        n += 1;
-    }
-    n
+    let highest = v.max(1).ilog2();
+    (highest / 7 + 1) as usize
 }
 
 // A varint of any length, forwards from where it starts.
@@ -26,14 +21,12 @@ fn push_groups(out: &mut [u8], at: usize, v: u64) -> usize
     ensures { Pushed result at (varint_bytes v) out.old out.new }
 {
     let p = at - varint_len(v);
-    let mut k = 0;
     let mut rest = v;
-    while 128 <= rest {
-        out[p + k] = (rest % 128 + 128) as u8;
+    for k in p..at - 1 {
+        out[k] = (rest % 128 + 128) as u8;
         rest /= 128;
-        k += 1;
     }
-    out[p + k] = rest as u8;
+    out[at - 1] = rest as u8;
     p
 }
 
@@ -43,7 +36,8 @@ pub fn push_varint(out: &mut [u8], at: usize, v: u64) -> usize
     ensures { Pushed result at (varint_bytes v) out.old out.new × (at ≤ result + 10) }
 {
     if 128 <= v {
-        return push_groups(out, at, v);
+        push_groups(out, at, v)
+    } else {
+        push_byte(out, at, v as u8)
     }
-    push_byte(out, at, v as u8)
 }

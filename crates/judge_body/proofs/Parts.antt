@@ -19,9 +19,6 @@ use Rattle.request_parts.specs.declared.Range.{Range}
 
 -- a part that must be there
 module _ {A : Type 0} (f : A → Bool) (b : Bool) (x : A) where
-  pub absent : b ≡ false → false ≡ present f (guard b x)
-  absent e = rw e
-
   pub there : {r : Bool} → b ≡ true → r ≡ f x → r ≡ present f (guard b x)
   there e q = q ∙ sym (ap (λ b. present f (guard b x)) e)
 

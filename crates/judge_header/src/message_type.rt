@@ -1,6 +1,6 @@
 // Document 01, "The order of judgement", step 7: what a messageType asks for, and the type of a reply.
 ghost use Rattle.std.specs.Prelude.{◌≡◌};
-ghost use Rattle.fields_schema.specs.Tree.{guard};
+ghost use Rattle.fields_lookup.specs.Views.{num_view};
 ghost use Rattle.protocol.specs.Operation.{asked, asked_by, reply_type};
 
 use protocol::message_type::{
@@ -9,93 +9,91 @@ use protocol::message_type::{
     GETPREVIOUS_RESPONSE, GETVERSION, GETVERSION_RESPONSE, INVALID_MESSAGE_TYPE, NOOP,
     NOOP_RESPONSE, PUT, PUT_RESPONSE, SECURITY, SECURITY_RESPONSE, SETUP, SETUP_RESPONSE,
 };
-use protocol::{Asked, Choice, Operation, Permission};
+use protocol::{Choice, Operation, Permission};
 
 // "Match on messageType numbers chooses operation, permission and reply type, everything else refused."
-pub fn asked(n: u64) -> Asked
+pub fn asked(n: u64) -> Option<Choice>
     ensures { result ≡ asked n }
 {
-    match n {
-        GET => Asked::Request(Choice {
-            operation: Operation::Get,
-            permission: Permission::Key(access_permission::READ),
-            reply_type: GET_RESPONSE,
-        }),
-        PUT => Asked::Request(Choice {
-            operation: Operation::Put,
-            permission: Permission::Key(access_permission::WRITE),
-            reply_type: PUT_RESPONSE,
-        }),
-        DELETE => Asked::Request(Choice {
-            operation: Operation::Delete,
-            permission: Permission::Key(access_permission::DELETE),
-            reply_type: DELETE_RESPONSE,
-        }),
-        GETNEXT => Asked::Request(Choice {
-            operation: Operation::GetNext,
-            permission: Permission::Any(access_permission::READ),
-            reply_type: GETNEXT_RESPONSE,
-        }),
-        GETPREVIOUS => Asked::Request(Choice {
-            operation: Operation::GetPrevious,
-            permission: Permission::Any(access_permission::READ),
-            reply_type: GETPREVIOUS_RESPONSE,
-        }),
-        GETKEYRANGE => Asked::Request(Choice {
-            operation: Operation::GetKeyRange,
-            permission: Permission::Any(access_permission::RANGE),
-            reply_type: GETKEYRANGE_RESPONSE,
-        }),
-        GETVERSION => Asked::Request(Choice {
-            operation: Operation::GetVersion,
-            permission: Permission::Key(access_permission::READ),
-            reply_type: GETVERSION_RESPONSE,
-        }),
-        SETUP => Asked::Request(Choice {
-            operation: Operation::Setup,
-            permission: Permission::Any(access_permission::SETUP),
-            reply_type: SETUP_RESPONSE,
-        }),
-        GETLOG => Asked::Request(Choice {
-            operation: Operation::GetLog,
-            permission: Permission::Any(access_permission::GETLOG),
-            reply_type: GETLOG_RESPONSE,
-        }),
-        SECURITY => Asked::Request(Choice {
-            operation: Operation::Security,
-            permission: Permission::Any(access_permission::SECURITY),
-            reply_type: SECURITY_RESPONSE,
-        }),
-        NOOP => Asked::Request(Choice {
-            operation: Operation::Noop,
-            permission: Permission::Free,
-            reply_type: NOOP_RESPONSE,
-        }),
-        FLUSHALLDATA => Asked::Request(Choice {
-            operation: Operation::FlushAllData,
-            permission: Permission::Free,
-            reply_type: FLUSHALLDATA_RESPONSE,
-        }),
-        _ => Asked::NotBuilt,
-    }
+    let (operation, permission, reply_type) = match n {
+        GET => (
+            Operation::Get,
+            Permission::Key(access_permission::READ),
+            GET_RESPONSE,
+        ),
+        PUT => (
+            Operation::Put,
+            Permission::Key(access_permission::WRITE),
+            PUT_RESPONSE,
+        ),
+        DELETE => (
+            Operation::Delete,
+            Permission::Key(access_permission::DELETE),
+            DELETE_RESPONSE,
+        ),
+        GETNEXT => (
+            Operation::GetNext,
+            Permission::Any(access_permission::READ),
+            GETNEXT_RESPONSE,
+        ),
+        GETPREVIOUS => (
+            Operation::GetPrevious,
+            Permission::Any(access_permission::READ),
+            GETPREVIOUS_RESPONSE,
+        ),
+        GETKEYRANGE => (
+            Operation::GetKeyRange,
+            Permission::Any(access_permission::RANGE),
+            GETKEYRANGE_RESPONSE,
+        ),
+        GETVERSION => (
+            Operation::GetVersion,
+            Permission::Key(access_permission::READ),
+            GETVERSION_RESPONSE,
+        ),
+        SETUP => (
+            Operation::Setup,
+            Permission::Any(access_permission::SETUP),
+            SETUP_RESPONSE,
+        ),
+        GETLOG => (
+            Operation::GetLog,
+            Permission::Any(access_permission::GETLOG),
+            GETLOG_RESPONSE,
+        ),
+        SECURITY => (
+            Operation::Security,
+            Permission::Any(access_permission::SECURITY),
+            SECURITY_RESPONSE,
+        ),
+        NOOP => (Operation::Noop, Permission::Free, NOOP_RESPONSE),
+        FLUSHALLDATA => (
+            Operation::FlushAllData,
+            Permission::Free,
+            FLUSHALLDATA_RESPONSE,
+        ),
+        _ => return None,
+    };
+    Some(Choice {
+        operation,
+        permission,
+        reply_type,
+    })
 }
 
 // The same of a messageType that may be absent.
-pub fn asked_by(has: bool, n: u64) -> Asked
-    ensures { result ≡ asked_by (guard has n) }
+pub fn asked_by(n: Option<u64>) -> Option<Choice>
+    ensures { result ≡ asked_by (num_view n) }
 {
-    if has {
-        return asked(n);
-    }
-    Asked::NotBuilt
+    asked(n?)
 }
 
 // The type of the reply; -1 where no built request is read.
-pub fn reply_type(a: Asked) -> u64
+pub fn reply_type(a: Option<Choice>) -> u64
     ensures { result ≡ reply_type a }
 {
     match a {
-        Asked::Request(choice) => choice.reply_type,
-        Asked::NotBuilt => INVALID_MESSAGE_TYPE,
+        Some(choice) => choice.reply_type,
+        None => INVALID_MESSAGE_TYPE,
     }
 }

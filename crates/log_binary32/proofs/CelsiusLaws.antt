@@ -1,17 +1,16 @@
 -- What is sent of a reading, by its bits. Assumes nothing.
-use Rattle.std.specs.Prelude.{◌≡◌, refl, ℕ, ◌+◌, ◌-◌, ◌*◌, ◌^◌, ◌<◌, ltb, Bool, true, false, cond}
+use Rattle.std.specs.Prelude.{◌≡◌, refl, ℕ, ◌+◌, ◌-◌, ◌*◌, ◌^◌, ◌<◌, ltb, Bool, true, false, cond, Some, None}
 use Rattle.std.proofs.Common.{sym, ap, ◌∙◌, arith}
 use Rattle.std.proofs.Math.Option.{none, some}
 use Rattle.log_binary32.specs.Binary32.{finite, negative, unsigned, units_of, rounded, less_thirty_two, minus32, times5, over9, to_celsius, portion}
 use Rattle.log_binary32.specs.Celsius.{celsius_of, finite_of, sent_of, sent_bits}
-use Rattle.log_binary32.specs.declared.Sent.TheVariants.{Bits, Omitted}
 
 -- the code's answer means the bits of a finite value
 pub sent-finite : (b : ℕ) → sent_bits (sent_of b) ≡ finite_of b
 unfolding sent_bits sent_of finite_of
 sent-finite b = go (finite b)
   where
-    go : (t : Bool) → sent_bits (cond t (Bits b) Omitted) ≡ cond t (some b) none
+    go : (t : Bool) → sent_bits (cond t (Some b) None) ≡ cond t (some b) none
     go true = refl
     go false = refl
 
@@ -36,9 +35,9 @@ unfolding celsius_of
 not-finite-stays false b h = refl
 not-finite-stays true b h = ap (λ (z : ℕ). over9 (times5 z)) (minus32-keeps b h) ∙ ap over9 (times5-keeps b h) ∙ over9-keeps b h
 
-pub omitted : (b : ℕ) → finite b ≡ false → Omitted ≡ sent_of b
+pub omitted : (b : ℕ) → finite b ≡ false → None ≡ sent_of b
 unfolding sent_of
-omitted b h = sym (ap (λ (t : Bool). cond t (Bits b) Omitted) h)
+omitted b h = sym (ap (λ (t : Bool). cond t (Some b) None) h)
 
 -- ---- each is again a number of 32 bits
 either : (t : Bool) (x y : ℕ) → x < 4294967296 → y < 4294967296 → cond t x y < 4294967296

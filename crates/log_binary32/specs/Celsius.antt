@@ -1,14 +1,13 @@
 -- What is sent of a reading. Document 02, CR 1: "arrives as Celsius or as Fahrenheit, and is sent as Celsius", and "A value that isn't finite, as it would
 -- be sent, is omitted".
-use Rattle.std.specs.Prelude.{ℕ, Bool, cond}
+use Rattle.std.specs.Prelude.{ℕ, Bool, cond, Some, None}
+use Rattle.std.specs.Prelude as code
 use Rattle.std.proofs.Math.Option.{Option, none, some}
 use Rattle.std.specs.Float.{binary32}
 use Rattle.std.specs.Float.Ieee.{to_bits}
 use Rattle.log_binary32.specs.Binary32.{finite, to_celsius}
 use Rattle.log_binary32.specs.declared.Temperature.{Temperature}
 use Rattle.log_binary32.specs.declared.Temperature.TheVariants.{Celsius, Fahrenheit}
-use Rattle.log_binary32.specs.declared.Sent.{Sent}
-use Rattle.log_binary32.specs.declared.Sent.TheVariants.{Bits, Omitted}
 
 -- the f32 of a temperature in Celsius
 unfoldable pub celsius_bits : Temperature → ℕ
@@ -24,9 +23,9 @@ unfoldable pub finite_of : ℕ → Option ℕ
 finite_of b = cond (finite b) (some b) none
 
 -- the code's answer, and what it means
-unfoldable pub sent_of : ℕ → Sent
-sent_of b = cond (finite b) (Bits b) Omitted
+unfoldable pub sent_of : ℕ → code.Option ℕ
+sent_of b = cond (finite b) (Some b) None
 
-unfoldable pub sent_bits : Sent → Option ℕ
-sent_bits (Bits b) = some b
-sent_bits Omitted = none
+unfoldable pub sent_bits : code.Option ℕ → Option ℕ
+sent_bits (Some b) = some b
+sent_bits None = none

@@ -13,12 +13,6 @@ pub enum Temperature {
     Fahrenheit(f32),
 }
 
-#[derive(Drop)]
-pub enum Sent {
-    Bits(u32),
-    Omitted,
-}
-
 // The temperature in Celsius, each step rounded to an f32.
 pub fn in_celsius(t: Temperature) -> f32
     ensures { to_bits binary32 result ≡ celsius_bits t }
@@ -30,27 +24,24 @@ pub fn in_celsius(t: Temperature) -> f32
 }
 
 // Bits that are lent, if they are a finite f32's.
-pub fn finite_lent(bits: u32) -> Sent
+pub fn finite_lent(bits: u32) -> Option<u32>
     ensures { result ≡ sent_of bits }
 {
-    if bits % 2147483648 < 2139095040 {
-        Sent::Bits(bits)
-    } else {
-        Sent::Omitted
-    }
+    (bits % 2147483648 < 2139095040).then_some(bits)
 }
 
 // The bits of an f32 that is finite.
-pub fn finite_bits(x: f32) -> Sent
+pub fn finite_bits(x: f32) -> Option<u32>
     ensures { result ≡ sent_of (to_bits binary32 x) }
 {
-    if x != x {
-        return Sent::Omitted;
+    if x.is_nan() {
+        None
+    } else {
+        finite_lent(x.to_bits())
     }
-    finite_lent(f32::to_bits(x))
 }
 
-pub fn celsius(t: Temperature) -> Sent
+pub fn celsius(t: Temperature) -> Option<u32>
     ensures { result ≡ sent_of (celsius_bits t) }
 {
     finite_bits(in_celsius(t))
@@ -64,15 +55,15 @@ pub fn portion_full(used: usize, all: usize) -> u32
     ensures { result ≡ portion used all }
 {
     let part = (used as f32) / (all as f32);
-    f32::to_bits(part)
+    part.to_bits()
 }
 
 // A temperature that is lent as its 32 bits, a NaN's too.
-pub fn lent_celsius(fahrenheit: bool, bits: u32) -> Sent
+pub fn lent_celsius(fahrenheit: bool, bits: u32) -> Option<u32>
     ensures { result ≡ sent_of (celsius_of fahrenheit bits) }
 {
     if 2139095040 < bits % 2147483648 {
-        return Sent::Omitted;
+        return None;
     }
     let x = f32::from_bits(bits);
     if fahrenheit {

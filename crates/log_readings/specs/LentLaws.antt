@@ -160,11 +160,6 @@ stops {x} y t i e = sym (ap (λ (b : Bool). b && y) e) ∙ sym t ∙ i
 pub goes : {x y g h : Bool} → g ≡ (x && y) → g ≡ h → x ≡ true → y ≡ h
 goes {x} {y} t i e = sym (ap (λ (b : Bool). b && y) e) ∙ sym t ∙ i
 
-pub good-test : (l : List ℕ) {t u : ℕ} → t ≡ get_or l 0 0 → u ≡ get_or l 1 0
-    → readings_good l ≡ (eqb (length l) 134 && (leb t 4 && (leb u 2 && (all_named (places_from l 0 t) && all_named (places_from l 4 u)))))
-unfolding readings_good
-good-test l e f = ap₂ (λ t u. eqb (length l) 134 && (leb t 4 && (leb u 2 && (all_named (places_from l 0 t) && all_named (places_from l 4 u))))) (sym e) (sym f)
-
 pub temperature-value : (l : List ℕ) (i : ℕ) → sent_bits (sent_of (celsius_of (not (eqb (get_or l (2 + i * 22) 0) 0)) (bits_at l (2 + i * 22 + 18)))) ≡ (sample_of true (place_at l i)).value
 unfolding temperature_sample lent_at
 temperature-value l i = sent-finite (celsius_of (not (eqb (get_or l (2 + i * 22) 0) 0)) (bits_at l (2 + i * 22 + 18)))

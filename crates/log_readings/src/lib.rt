@@ -10,10 +10,7 @@ use base_integers::as_usize::wide;
 fn name_fits(n: u8) -> bool
     ensures { result ≡ fits n }
 {
-    if n < 1 {
-        return false;
-    }
-    n <= 16
+    (1..=16).contains(&n)
 }
 
 // Has each of `n` places from `first` on a name of 1 to 16 bytes?
@@ -21,14 +18,10 @@ fn named(s: &[u8], first: usize, n: usize) -> bool
     requires { (length s.now ≡ 134) × (first + n ≤ 6) }
     ensures { result ≡ all_named (places_from s.now first n) }
 {
-    let mut i = first;
-    let mut left = n;
-    while 0 < left {
+    for i in first..first + n {
         if !name_fits(s[3 + i * 22]) {
             return false;
         }
-        i += 1;
-        left -= 1;
     }
     true
 }
@@ -41,17 +34,8 @@ pub fn good(s: &[u8]) -> bool
         return false;
     }
     let t = wide(s[0]);
-    if 4 < t {
-        return false;
-    }
     let u = wide(s[1]);
-    if 2 < u {
-        return false;
-    }
-    if !named(s, 0, t) {
-        return false;
-    }
-    named(s, 4, u)
+    t <= 4 && u <= 2 && named(s, 0, t) && named(s, 4, u)
 }
 
 // How many temperatures there are: the places from 0 on.

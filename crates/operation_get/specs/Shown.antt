@@ -1,17 +1,21 @@
 -- What the code's answers mean, beside the definitions of `Judge`.
 use Rattle.std.specs.Prelude.{◌≡◌, List, ℕ, ◌+◌, ◌≤◌, length}
+use Rattle.std.specs.Prelude as code
+use Rattle.std.specs.Prelude.{Some, None}
 use Rattle.std.proofs.Math.Option.{Option, none, some}
 use Rattle.store_block.specs.Entry.{Entry}
 use Rattle.store_layout.specs.declared.Parts.{Parts}
 use Rattle.store_layout.specs.Entries as store
 use Rattle.protocol.specs.State.{State}
-use Rattle.operation_get.specs.declared.Shown.{Shown}
-use Rattle.operation_get.specs.declared.Shown.TheVariants.{Found, Missing}
+
+-- what they answer: where the entry's parts lie in the store, if there is one
+abbrev pub Shown : Type 0
+Shown = code.Option Parts
 
 -- the entry that is shown, of a store
 abbrev pub entry_shown : List ℕ → Shown → Option Entry
-entry_shown l (Found p) = some (store.entry_of l p)
-entry_shown l Missing = none
+entry_shown l (Some p) = some (store.entry_of l p)
+entry_shown l None = none
 
 -- the parts lie inside the store, and are no longer than a block's
 pub record Inside (l : List ℕ) (p : Parts) : Type 0 where
@@ -25,8 +29,8 @@ pub record Inside (l : List ℕ) (p : Parts) : Type 0 where
   pub value_fits : p.value.len ≤ 384
 
 abbrev pub PartsInside : List ℕ → Shown → Type 0
-PartsInside l (Found p) = Inside l p
-PartsInside l Missing = Unit {0}
+PartsInside l (Some p) = Inside l p
+PartsInside l None = Unit {0}
 
 -- the answer is the entry that a definition of `Judge` gives in every state with this store
 pub record Showing (l : List ℕ) (r : Shown) (of : State → Option Entry) : Type 0 where

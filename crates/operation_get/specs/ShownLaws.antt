@@ -1,10 +1,10 @@
 -- Laws of what is shown.
-use Rattle.std.specs.Prelude.{◌≡◌, Bool, cond, List, [], ◌∷◌, ℕ, zero, suc, ◌+◌, ◌≤◌, length, get_or}
+use Rattle.std.specs.Prelude.{◌≡◌, Bool, cond, List, [], ◌∷◌, ℕ, zero, suc, ◌+◌, ◌≤◌, length, get_or, Ok, Err}
 use Rattle.std.proofs.Common.{sym, ap, ◌∙◌, arith, length-take, length-drop}
+use Rattle.std.specs.Prelude.{Some, None}
 use Rattle.std.proofs.Math.Option.{Option, some}
 use Rattle.base_definitions.specs.Lists.{first, only}
 use Rattle.store_block.specs.Entry.{Entry, no_entry}
-use Rattle.store_layout.specs.declared.KeyPlace as found
 use Rattle.store_layout.specs.declared.EntryPart.{EntryPart}
 use Rattle.store_layout.specs.declared.Parts.{Parts}
 use Rattle.store_layout.specs.Store.{entries_of, Good, AllFit}
@@ -14,9 +14,7 @@ use Rattle.operation_visible.specs.Runs.{along, skipped}
 use Rattle.operation_visible.specs.RunLaws.{none_left, some_left}
 use Rattle.protocol.specs.State.{State, entries}
 use Rattle.protocol.specs.Judge.{key_value, fails, succeeds, shown, version_shown, entry_at, entry_of}
-use Rattle.operation_get.specs.declared.Shown.{Shown}
-use Rattle.operation_get.specs.declared.Shown.TheVariants.{Found, Missing}
-use Rattle.operation_get.specs.Shown.{Inside, Showing}
+use Rattle.operation_get.specs.Shown.{Shown, Inside, Showing}
 
 -- an entry of a good store, and also what stands past the last, is no longer than a block's parts
 record Short (e : Entry) : Type 0 where
@@ -58,7 +56,7 @@ module _ (l : List ℕ) (g : Good l) where
         value_fits = omega arith;
       }
 
-  pub found_at : (k : List ℕ) (i : ℕ) (p : Parts) → EntryAt l i p → Sought l k (found.TheVariants.At i) → Showing l (Found p) (λ s. entry_of s k)
+  pub found_at : (k : List ℕ) (i : ℕ) (p : Parts) → EntryAt l i p → Sought l k (Ok i) → Showing l (Some p) (λ s. entry_of s k)
   found_at k i p e f =
       record {
         inside = parts-inside i p e;
@@ -66,13 +64,13 @@ module _ (l : List ℕ) (g : Good l) where
             ap some (e.same g) ∙ ap (λ (m : List ℕ). some (get_or (entries_of m) i no_entry)) (sym q) ∙ ap (entry_at s) (f.same g ∙ ap (λ (m : List ℕ). find_in k (entries_of m)) (sym q));
       }
 
-  pub missing_at : (k : List ℕ) (i : ℕ) → Sought l k (found.TheVariants.Gap i) → Showing l Missing (λ s. entry_of s k)
+  pub missing_at : (k : List ℕ) (i : ℕ) → Sought l k (Err i) → Showing l None (λ s. entry_of s k)
   missing_at k i f =
       record { inside = tt; same = λ s q. ap (entry_at s) (f.same g ∙ ap (λ (m : List ℕ). find_in k (entries_of m)) (sym q)) }
 
   -- the first entry of a run that passes a test, by what is left of the run
   module _ (f : Entry → Bool) (r : Run) {left : Run} (e : left ≡ skipped f (entries_of l) r) where
-    pub found_first : (p : Parts) → (left.count ≡ 0 → ⊥) → EntryAt l left.first p → Showing l (Found p) (λ s. first (only f (along r (entries s))))
+    pub found_first : (p : Parts) → (left.count ≡ 0 → ⊥) → EntryAt l left.first p → Showing l (Some p) (λ s. first (only f (along r (entries s))))
     found_first p n w =
         record {
           inside = parts-inside left.first p w;
@@ -82,7 +80,7 @@ module _ (l : List ℕ) (g : Good l) where
               ∙ ap (λ (m : List ℕ). first (only f (along r (entries_of m)))) (sym q);
         }
 
-    pub missing-first : left.count ≡ 0 → Showing l Missing (λ s. first (only f (along r (entries s))))
+    pub missing-first : left.count ≡ 0 → Showing l None (λ s. first (only f (along r (entries s))))
     missing-first n =
         record {
           inside = tt;
@@ -98,15 +96,15 @@ module _ (l : List ℕ) (g : Good l) where
 
 -- ---- what a reply says of an answer: "7 if missing"; "keyValue 3, 4, 5, 6, .., and the value part unless metadataOnly"; "GETVERSION keyValue 4"
 module _ {l : List ℕ} {of : State → Option Entry} (s : State) (q : s.store ≡ l) where
-  pub shows-found : {p : Parts} (m : Bool) → Showing l (Found p) of
+  pub shows-found : {p : Parts} (m : Bool) → Showing l (Some p) of
       → shown s m (of s) ≡ succeeds s (key_value (part_of l p.key) (part_of l p.version) (part_of l p.tag) p.algorithm) (cond m [] (part_of l p.value))
   shows-found m h = sym (ap (shown s m) (h.same s q))
 
-  pub shows-missing : (m : Bool) → Showing l Missing of → shown s m (of s) ≡ fails s 7
+  pub shows-missing : (m : Bool) → Showing l None of → shown s m (of s) ≡ fails s 7
   shows-missing m h = sym (ap (shown s m) (h.same s q))
 
-  pub shows-version : {p : Parts} → Showing l (Found p) of → version_shown s (of s) ≡ succeeds s (key_value [] (part_of l p.version) [] 0) []
+  pub shows-version : {p : Parts} → Showing l (Some p) of → version_shown s (of s) ≡ succeeds s (key_value [] (part_of l p.version) [] 0) []
   shows-version h = sym (ap (version_shown s) (h.same s q))
 
-  pub shows-no-version : Showing l Missing of → version_shown s (of s) ≡ fails s 7
+  pub shows-no-version : Showing l None of → version_shown s (of s) ≡ fails s 7
   shows-no-version h = sym (ap (version_shown s) (h.same s q))

@@ -19,36 +19,30 @@ use operation_visible::{Run, Viewer, next_place, skip_hidden};
 use store_bounds::{first_above, first_from};
 use store_layout::Parts;
 
-// What they find: where the entry's parts lie in the store.
-#[derive(Drop)]
-pub enum Shown {
-    Found(Parts),
-    Missing,
-}
-
-pub fn get(store: &[u8], key: &[u8]) -> Shown
+// Where the parts of the entry under a key lie in the store.
+pub fn get(store: &[u8], key: &[u8]) -> Option<Parts>
     requires { Good store.now }
     ensures { Showing store.now result (λ s. entry_of s key.now) }
 {
     match store_find::find(store, key) {
-        store_layout::KeyPlace::At(i) => Shown::Found(store_find::entry_at(store, i)),
-        store_layout::KeyPlace::Gap(_) => Shown::Missing,
+        Ok(i) => Some(store_find::entry_at(store, i)),
+        Err(_) => None,
     }
 }
 
 // The first entry of a run that the viewer may read.
-fn first_visible(store: &[u8], device: &Record, viewer: Viewer, run: Run) -> Shown
+fn first_visible(store: &[u8], device: &Record, viewer: Viewer, run: Run) -> Option<Parts>
     requires { Good store.now × Placed device.now viewer.acl × (run.first + run.count ≤ 256) }
     ensures { Showing store.now result (λ s. first (only (seen_by device.now viewer READ) (along run (entries s)))) }
 {
     let rest = skip_hidden(store, device, viewer, READ, run);
     if rest.count == 0 {
-        return Shown::Missing;
+        return None;
     }
-    Shown::Found(store_find::entry_at(store, rest.first))
+    Some(store_find::entry_at(store, rest.first))
 }
 
-pub fn get_next(store: &[u8], device: &Record, viewer: Viewer, key: &[u8]) -> Shown
+pub fn get_next(store: &[u8], device: &Record, viewer: Viewer, key: &[u8]) -> Option<Parts>
     requires { Good store.now × Placed device.now viewer.acl }
     ensures { Showing store.now result (λ s. next_of key.now (only (seen_by device.now viewer READ) (entries s))) }
 {
@@ -62,7 +56,7 @@ pub fn get_next(store: &[u8], device: &Record, viewer: Viewer, key: &[u8]) -> Sh
     first_visible(store, device, viewer, run)
 }
 
-pub fn get_previous(store: &[u8], device: &Record, viewer: Viewer, key: &[u8]) -> Shown
+pub fn get_previous(store: &[u8], device: &Record, viewer: Viewer, key: &[u8]) -> Option<Parts>
     requires { Good store.now × Placed device.now viewer.acl }
     ensures { Showing store.now result (λ s. previous_of key.now (only (seen_by device.now viewer READ) (entries s))) }
 {

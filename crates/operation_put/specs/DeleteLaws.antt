@@ -1,10 +1,9 @@
 -- Laws of DELETE.
-use Rattle.std.specs.Prelude.{◌≡◌, refl, Bool, true, false, cond, ◌||◌, List, ℕ, eqb}
+use Rattle.std.specs.Prelude.{◌≡◌, refl, Bool, true, false, cond, ◌||◌, List, ℕ, eqb, Result, Ok, Err}
 use Rattle.std.proofs.Common.{sym, ap, ◌∙◌, subst, eq-eqb, ne_eqb}
 use Rattle.std.proofs.Math.Option.{Option, none, some}
 use Rattle.base_definitions.specs.Lists.{same_bytes}
 use Rattle.store_block.specs.Entry.{Entry}
-use Rattle.store_layout.specs.declared.KeyPlace as found
 use Rattle.store_layout.specs.Store.{entries_of, Good}
 use Rattle.store_layout.specs.Entries.{find_in, delete_store}
 use Rattle.store_layout.proofs.KeptLaws.{delete-kept}
@@ -25,9 +24,9 @@ module _ {l key old : List ℕ} {f : Bool} {k : KeyValue} (g : Good l) (p : Dele
   missing : (s : State) → s.store ≡ l → entry_of s key ≡ none → delete_store l key ≡ l
   missing s q n = go (find_in key (entries_of l)) refl (sym (ap (λ (m : List ℕ). entry_at s (find_in key (entries_of m))) q) ∙ n)
     where
-      go : (o : found.KeyPlace) → find_in key (entries_of l) ≡ o → entry_at s (find_in key (entries_of l)) ≡ none → delete_store l key ≡ l
-      go (found.TheVariants.At i) e z = never (let y = sym (ap (entry_at s) e) ∙ z in cc)
-      go (found.TheVariants.Gap i) e z = sym (kept l g key i (sym e)).1
+      go : (o : Result ℕ ℕ) → find_in key (entries_of l) ≡ o → entry_at s (find_in key (entries_of l)) ≡ none → delete_store l key ≡ l
+      go (Ok i) e z = never (let y = sym (ap (entry_at s) e) ∙ z in cc)
+      go (Err i) e z = sym (kept l g key i (sym e)).1
 
   delete-as : (s : State) → s.store ≡ l → (o : Option Entry)
       → delete_by s k o ≡ delete_by s (record { new_version = k.new_version; key = key; db_version = old; tag = k.tag; algorithm = k.algorithm; metadata_only = k.metadata_only; force = f }) o

@@ -1,7 +1,8 @@
 -- What the code's answers about PUT mean, beside the definitions of `Judge`; `Changed` serves DELETE too.
 use Rattle.std.specs.Prelude.{◌≡◌, Bool, false, cond, List, ℕ, eqb}
-use Rattle.store_layout.specs.declared.PutAnswer.{PutAnswer}
-use Rattle.store_layout.specs.declared.PutAnswer.TheVariants.{Stored, Full, Unfit}
+use Rattle.store_layout.specs.Entries.{PutAnswer}
+use Rattle.std.specs.Prelude.{Ok, Err}
+use Rattle.store_layout.specs.declared.PutError.TheVariants.{Full, Unfit}
 use Rattle.store_layout.specs.Store.{Good}
 use Rattle.protocol.specs.StatusCode.{SUCCESS, NO_SPACE, INVALID_REQUEST}
 use Rattle.protocol.specs.State.{State}
@@ -10,9 +11,9 @@ use Rattle.protocol.specs.Judge.{Result, fails, changed}
 
 -- "A new key that passes this, with no blank block: NO_SPACE (14)"; an entry that fits no block is INVALID_REQUEST (16)
 abbrev pub put_code : PutAnswer → ℕ
-put_code Stored = SUCCESS
-put_code Full = NO_SPACE
-put_code Unfit = INVALID_REQUEST
+put_code (Ok tt) = SUCCESS
+put_code (Err Full) = NO_SPACE
+put_code (Err Unfit) = INVALID_REQUEST
 
 -- what a PUT's keyValue says
 pub record Puts (k : KeyValue) (key new old tag : List ℕ) (a : ℕ) (f : Bool) : Type 0 where

@@ -3,8 +3,9 @@ use Rattle.std.specs.Prelude.{◌≡◌, refl, Bool, true, false, cond, ◌||◌
 use Rattle.std.proofs.Common.{sym, ap, ◌∙◌, subst, arith}
 use Rattle.base_definitions.specs.Lists.{same_bytes}
 use Rattle.store_block.specs.Entry.{Entry, entry}
-use Rattle.store_layout.specs.declared.PutAnswer.{PutAnswer}
-use Rattle.store_layout.specs.declared.PutAnswer.TheVariants.{Stored, Full, Unfit}
+use Rattle.store_layout.specs.Entries.{PutAnswer}
+use Rattle.std.specs.Prelude.{Ok, Err}
+use Rattle.store_layout.specs.declared.PutError.TheVariants.{Full, Unfit}
 use Rattle.store_layout.specs.Store.{Good}
 use Rattle.store_layout.specs.Entries.{put_answer, put_store}
 use Rattle.store_layout.proofs.KeptLaws.{put-kept, put_same}
@@ -23,16 +24,16 @@ never z = absurd (omega arith)
 module _ (l : List ℕ) (e : Entry) where
   by_answer : (s : State) → s.store ≡ l → (a : PutAnswer) → a ≡ put_answer l e
       → put_by s e (put_answer l e) ≡ cond (eqb (put_code a) SUCCESS) (changed s (put_store l e)) (fails s (put_code a))
-  by_answer s q Stored h = ap (put_by s e) (sym h) ∙ ap (λ (m : List ℕ). changed s (put_store m e)) q
-  by_answer s q Full h = ap (put_by s e) (sym h)
-  by_answer s q Unfit h = ap (put_by s e) (sym h)
+  by_answer s q (Ok tt) h = ap (put_by s e) (sym h) ∙ ap (λ (m : List ℕ). changed s (put_store m e)) q
+  by_answer s q (Err Full) h = ap (put_by s e) (sym h)
+  by_answer s q (Err Unfit) h = ap (put_by s e) (sym h)
 
   kept-room : (a : PutAnswer) → a ≡ put_answer l e → Good l → (eqb (put_code a) 1 ≡ false → put_store l e ≡ l) × Good (put_store l e)
-  kept-room Stored q g = (λ z. never (cc), (put-kept l g e (sym q)).good)
-  kept-room Full q g =
+  kept-room (Ok tt) q g = (λ z. never (cc), (put-kept l g e (sym q)).good)
+  kept-room (Err Full) q g =
       let same : put_store l e ≡ l = put_same l g e (λ z. let w : ◌≡◌ {A = ℕ} 0 1 = cc in omega arith) in
       (λ z. same, subst (λ (m : List ℕ). Good m) (sym same) g)
-  kept-room Unfit q g =
+  kept-room (Err Unfit) q g =
       let same : put_store l e ≡ l = put_same l g e (λ z. let w : ◌≡◌ {A = ℕ} 0 1 = cc in omega arith) in
       (λ z. same, subst (λ (m : List ℕ). Good m) (sym same) g)
 

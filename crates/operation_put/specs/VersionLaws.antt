@@ -1,6 +1,7 @@
 -- Laws of versions.
 use Rattle.std.specs.Prelude.{◌≡◌, refl, Bool, true, false, cond, ◌||◌, List, [], ◌∷◌, ℕ, eqb, length}
 use Rattle.std.proofs.Common.{sym, ap, ◌∙◌, arith, ne_eqb}
+use Rattle.std.specs.Prelude.{Some, None}
 use Rattle.std.proofs.Math.Option.{Option, none, some}
 use Rattle.base_definitions.specs.Lists.{same_bytes}
 use Rattle.store_block.specs.Entry.{Entry}
@@ -8,9 +9,7 @@ use Rattle.store_layout.specs.declared.Parts.{Parts}
 use Rattle.store_layout.specs.Entries.{part_of}
 use Rattle.protocol.specs.State.{State}
 use Rattle.protocol.specs.Judge.{version_of}
-use Rattle.operation_get.specs.declared.Shown.{Shown}
-use Rattle.operation_get.specs.declared.Shown.TheVariants.{Found, Missing}
-use Rattle.operation_get.specs.Shown.{entry_shown, Showing}
+use Rattle.operation_get.specs.Shown.{Shown, entry_shown, Showing}
 use Rattle.operation_put.specs.declared.version.Version.TheVariants.{Same, Other, Absent}
 use Rattle.operation_put.specs.VersionFound.{version_found, version_fits}
 
@@ -32,11 +31,11 @@ version-fits old false (some e) = go (same_bytes old e.version)
     go false = refl
 
 -- how a version stands to that of the entry that was found
-pub version-found : (old : List ℕ) {l : List ℕ} {r : Shown} {of : State → Option Entry} {p : Parts} → Showing l r of → r ≡ Found p
+pub version-found : (old : List ℕ) {l : List ℕ} {r : Shown} {of : State → Option Entry} {p : Parts} → Showing l r of → r ≡ Some p
     → (b : Bool) → b ≡ same_bytes old (part_of l p.version) → (s : State) → s.store ≡ l → cond b Same Other ≡ version_found old (of s)
 version-found old {l} h e b c s q =
     ap (λ (b : Bool). cond b Same Other) c ∙ ap (λ (r : Shown). version_found old (entry_shown l r)) (sym e) ∙ ap (version_found old) (h.same s q)
 
-pub version-none : (old : List ℕ) {l : List ℕ} {r : Shown} {of : State → Option Entry} → Showing l r of → r ≡ Missing
+pub version-none : (old : List ℕ) {l : List ℕ} {r : Shown} {of : State → Option Entry} → Showing l r of → r ≡ None
     → (s : State) → s.store ≡ l → Absent ≡ version_found old (of s)
 version-none old {l} h e s q = ap (λ (r : Shown). version_found old (entry_shown l r)) (sym e) ∙ ap (version_found old) (h.same s q)

@@ -2,25 +2,25 @@
 ghost use Rattle.std.specs.Prelude.{◌≡◌};
 ghost use Rattle.store_block.specs.Entry.{entry, Sized};
 ghost use Rattle.store_layout.specs.Store.{Good};
+ghost use Rattle.protocol.specs.Failure.{code_of};
 ghost use Rattle.protocol.specs.Command.{KeyValue};
 ghost use Rattle.protocol.specs.Judge.{put};
 ghost use Rattle.operation_put.specs.PutCode.{put_code, Puts, Changed};
 
 use crate::version::{compare_version, version_fits};
-use protocol::status::{INVALID_REQUEST, NO_SPACE, SUCCESS, VERSION_MISMATCH};
-use store_layout::PutAnswer;
+use protocol::status::Failure;
+use store_layout::PutError;
 
-fn put_code(a: PutAnswer) -> u64
-    ensures { result ≡ put_code a }
+fn put_code(a: Result<(), PutError>) -> Result<(), Failure>
+    ensures { code_of result ≡ put_code a }
 {
     match a {
-        PutAnswer::Stored => SUCCESS,
-        PutAnswer::Full => NO_SPACE,
-        PutAnswer::Unfit => INVALID_REQUEST,
+        Ok(()) => Ok(()),
+        Err(PutError::Full) => Err(Failure::NoSpace),
+        Err(PutError::Unfit) => Err(Failure::InvalidRequest),
     }
 }
 
-// The status code.
 pub fn put(
     store: &mut [u8],
     key: &[u8],
@@ -30,13 +30,13 @@ pub fn put(
     algorithm: u8,
     force: bool,
     value: &[u8],
-) -> u64
+) -> Result<(), Failure>
     requires { Good store.old × Sized (entry key.now new.now tag.now value.now algorithm) }
     ensures { (k : KeyValue) → Puts k key.now new.now old.now tag.now algorithm force →
-        Changed (λ s. put s k value.now) result store.old store.new }
+        Changed (λ s. put s k value.now) (code_of result) store.old store.new }
 {
     if !version_fits(compare_version(store, key, old), old, force) {
-        return VERSION_MISMATCH;
+        return Err(Failure::VersionMismatch);
     }
     put_code(store_write::put::put(store, key, new, tag, value, algorithm))
 }

@@ -6,10 +6,9 @@ ghost use Rattle.protocol.specs.Judge.{entry_of};
 ghost use Rattle.operation_put.specs.VersionFound.{version_found, version_fits};
 
 use base_bytes::same;
-use operation_get::Shown;
 
 // How a dbVersion stands to the stored version under a key.
-#[derive(Drop)]
+#[derive(Clone, Copy, PartialEq, Eq)]
 pub enum Version {
     Same,
     Other,
@@ -21,7 +20,7 @@ pub fn compare_version(store: &[u8], key: &[u8], old: &[u8]) -> Version
     ensures { (s : State) → s.store ≡ store.now → result ≡ version_found old.now (entry_of s key.now) }
 {
     match operation_get::get(store, key) {
-        Shown::Found(p) => {
+        Some(p) => {
             let part = p.version;
             let a = part.start;
             let e = a + part.len;
@@ -30,7 +29,7 @@ pub fn compare_version(store: &[u8], key: &[u8], old: &[u8]) -> Version
             }
             Version::Other
         }
-        Shown::Missing => Version::Absent,
+        None => Version::Absent,
     }
 }
 
@@ -38,12 +37,10 @@ pub fn compare_version(store: &[u8], key: &[u8], old: &[u8]) -> Version
 pub fn version_fits(v: Version, old: &[u8], force: bool) -> bool
     ensures { result ≡ version_fits v old.now force }
 {
-    if force {
-        return true;
-    }
-    match v {
-        Version::Same => true,
-        Version::Other => false,
-        Version::Absent => old.len() == 0,
-    }
+    force
+        || match v {
+            Version::Same => true,
+            Version::Other => false,
+            Version::Absent => old.is_empty(),
+        }
 }

@@ -17,10 +17,11 @@ use Rattle.store_layout.specs.Entries.{below, up_to}
 use Rattle.store_layout.proofs.EntriesLaws.{below-most, up_to-most}
 use Rattle.protocol.specs.Command.{Range}
 use Rattle.protocol.specs.Judge.{in_range, keys_in, keys_of}
-use Rattle.operation_visible.specs.Runs.{onward, entries_from, skipped_from}
-use Rattle.operation_visible.specs.RunLaws.{none_left, some_left}
+use Rattle.operation_visible.specs.declared.Run.{Run}
+use Rattle.operation_visible.specs.Runs.{onward, entries_from, skipped_from, skipped}
+use Rattle.operation_visible.specs.RunLaws.{none_left, some_left, skip-way}
 use Rattle.operation_visible.specs.BoundLaws.{between_run, run-reverse, run-empty}
-use Rattle.operation_range.specs.Keys.{key_of, key_at, keys_at, listed}
+use Rattle.operation_range.specs.Keys.{key_of, key_at, keys_at, listed, listed_of}
 
 -- how many entries stand before the range, and how many up to its end
 abbrev before : Range → List Entry → ℕ
@@ -124,3 +125,12 @@ module _ (f : Entry → Bool) (es : List Entry) (b : Bool) (most : ℕ) where
       sym (append-nil (keys_at es (take n places)))
       ∙ ap (λ ks. keys_at es (take n places) ++ ks) (sym (take-nil (most - n)))
       ∙ ap (λ xs. keys_at es (take n places) ++ take (most - n) (map_l key_of xs)) (sym (none_left f es b i count h))
+
+-- one place more, of a run whose way the rest of it keeps
+pub list_next : (f : Entry → Bool) (es : List Entry) (most : ℕ) (places : List ℕ) (n : ℕ) (r : Run) → n < length places → n < most
+    → let left = skipped f es r in (left.count ≡ 0 → ⊥)
+    → listed f es left.reverse most (set places n left.first) (n + 1) (onward left.reverse left.first) (left.count - 1) ≡ listed_of f es most places n r
+list_next f es most places n r h k m =
+    let left = skipped f es r in
+    ap (λ (b : Bool). listed f es b most (set places n left.first) (n + 1) (onward b left.first) (left.count - 1)) (skip-way f es r.reverse r.first r.count)
+    ∙ list-more f es r.reverse most places n r.first r.count h k m

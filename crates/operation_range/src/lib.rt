@@ -1,7 +1,7 @@
 // The keys that a range asks for, document 01, "What each does", and document 02, CR 2: as places of the store, in the order of the reply.
 #![tactic(auto)]
 
-ghost use Rattle.std.specs.Prelude.{cond, ◌≡◌, ◌+◌, ◌-◌, ◌≤◌, length, take};
+ghost use Rattle.std.specs.Prelude.{cond, ◌≡◌, ◌+◌, ◌≤◌, length, take};
 ghost use Rattle.base_definitions.specs.Lists.{map_l, only};
 ghost use Rattle.access_record.specs.Record.{Placed};
 ghost use Rattle.access_permission.specs.Permissions.{RANGE};
@@ -15,7 +15,7 @@ ghost use Rattle.operation_range.specs.Range.{range_by};
 
 use access_permission::RANGE;
 use access_record::Record;
-use operation_visible::{Run, Viewer, next_place, skip_hidden};
+use operation_visible::{Run, Viewer, skip_hidden};
 
 // What a range asks for beside its two keys: whether it has them, how many keys at most, and whether from the last one down.
 #[derive(Drop)]
@@ -34,28 +34,10 @@ fn bound(store: &[u8], key: &[u8], inclusive: bool) -> usize
         (up_to key.now (entries_of store.now)) }
 {
     if inclusive {
-        return store_bounds::first_from(store, key);
+        store_bounds::first_from(store, key)
+    } else {
+        store_bounds::first_above(store, key)
     }
-    store_bounds::first_above(store, key)
-}
-
-// The difference, 0 where it would be negative.
-fn less(a: usize, b: usize) -> usize
-    ensures { result ≡ a - b }
-{
-    if a < b {
-        return 0;
-    }
-    a - b
-}
-
-fn either(test: bool, a: usize, b: usize) -> usize
-    ensures { result ≡ cond test a b }
-{
-    if test {
-        return a;
-    }
-    b
 }
 
 // The places of a run whose keys the viewer may list, in its order, the first `most`: how many they are.
@@ -72,31 +54,16 @@ fn list_visible(
     ensures { (keys_at (entries_of store.now) (take result places.new)
         ≡ take most (map_l key_of (only (seen_by device.now viewer RANGE) (along run (entries_of store.now))))) × (result ≤ most) }
 {
-    let reverse = run.reverse;
-    let mut first = run.first;
-    let mut count = run.count;
-    let mut n: usize = 0;
-    while n < most {
-        let left = skip_hidden(
-            store,
-            device,
-            viewer,
-            RANGE,
-            Run {
-                first,
-                count,
-                reverse,
-            },
-        );
+    let mut rest = run;
+    for n in 0..most {
+        let left = skip_hidden(store, device, viewer, RANGE, rest);
         if left.count == 0 {
             return n;
         }
         places[n] = left.first as u8;
-        n += 1;
-        first = next_place(left.first, reverse);
-        count = left.count - 1;
+        rest = left.rest();
     }
-    n
+    most
 }
 
 // The places whose keys a range lists, in its order: how many they are.
@@ -116,9 +83,14 @@ pub fn range_places(
 {
     let low = bound(store, start, options.start_inclusive);
     let high = bound(store, end, !options.end_inclusive);
+    let first = if options.reverse {
+        high.saturating_sub(1)
+    } else {
+        low
+    };
     let run = Run {
-        first: either(options.reverse, less(high, 1), low),
-        count: less(high, low),
+        first,
+        count: high.saturating_sub(low),
         reverse: options.reverse,
     };
     list_visible(store, device, viewer, run, options.most, places)

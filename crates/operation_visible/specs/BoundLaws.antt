@@ -4,13 +4,13 @@ use Rattle.std.proofs.Common.{sym, ap, ap₂, ◌∙◌, arith}
 use mathlib.Core.List.{List, [], ◌∷◌, ◌++◌, reverse, reverse-cons}
 use Rattle.base_definitions.specs.Lists.{only, first}
 use Rattle.base_definitions.proofs.OnlyLaws.{only-only, only-alike, only-reverse}
-use Rattle.store_block.specs.declared.Order.{Order}
-use Rattle.store_block.specs.declared.Order.TheVariants.{Less, Equal, Greater}
+use Rattle.std.specs.declared.cmp.Ordering.{Ordering}
+use Rattle.std.specs.declared.cmp.Ordering.TheVariants.{Less, Equal, Greater}
 use Rattle.store_block.specs.Order.{cmp}
 use Rattle.store_block.specs.OrderLaws.{cmp-equal, cmp-flip}
-use Rattle.store_block.specs.Flip.{flip}
+use Rattle.std.specs.Ordering.{ordering_reverse}
 use Rattle.store_block.specs.Entry.{Entry, no_entry}
-use Rattle.store_block.specs.Block.{is_less, is_equal}
+use Rattle.std.specs.Ordering.{is_eq, is_lt}
 use Rattle.store_layout.specs.Store.{Above, Sorted}
 use Rattle.store_layout.specs.Entries.{by_order, below, up_to, next_of, previous_of}
 use Rattle.store_layout.proofs.EntriesLaws.{none_below, none-up_to, above-next}
@@ -125,14 +125,14 @@ number-reached true k [] = refl
 number-reached false k [] = refl
 number-reached true k (e ∷ es) = go (cmp e.key k) (number-reached true k es)
   where
-    go : (o : Order) → number (reached true k) es ≡ up_to k es
+    go : (o : Ordering) → number (reached true k) es ≡ up_to k es
         → cond (by_order o true true false) (1 + number (reached true k) es) (number (reached true k) es) ≡ by_order o (1 + up_to k es) (1 + up_to k es) (up_to k es)
     go Less ih = ap (λ n. 1 + n) ih
     go Equal ih = ap (λ n. 1 + n) ih
     go Greater ih = ih
 number-reached false k (e ∷ es) = go (cmp e.key k) (number-reached false k es)
   where
-    go : (o : Order) → number (reached false k) es ≡ below k es
+    go : (o : Ordering) → number (reached false k) es ≡ below k es
         → cond (by_order o true false false) (1 + number (reached false k) es) (number (reached false k) es) ≡ by_order o (1 + below k es) (below k es) (below k es)
     go Less ih = ap (λ n. 1 + n) ih
     go Equal ih = ih
@@ -147,18 +147,18 @@ unfolding reached by_order
 falls b k [] s = tt
 falls b k (e ∷ es) s = (λ h. number-none b k es (go b (cmp e.key k) refl h) s.1, falls b k es s.1)
   where
-    go : (b : Bool) (o : Order) → cmp e.key k ≡ o → by_order o true b false ≡ false → Above k es
+    go : (b : Bool) (o : Ordering) → cmp e.key k ≡ o → by_order o true b false ≡ false → Above k es
     go b Less c h = absurd (let z : ◌≡◌ {A = ℕ} 0 1 = cc in omega arith)
     go true Equal c h = absurd (let z : ◌≡◌ {A = ℕ} 0 1 = cc in omega arith)
     go false Equal c h = rw (sym (cmp-equal e.key k c)) s.0
-    go b Greater c h = above-next k e es (cmp-flip e.key k ∙ ap flip c) s.0
+    go b Greater c h = above-next k e es (cmp-flip e.key k ∙ ap ordering_reverse c) s.0
 
 -- what a range asks of a key, by the two bounds
-past-start : (b : Bool) (s k : List ℕ) → (is_less (cmp s k) || (b && is_equal (cmp s k))) ≡ not (by_order (cmp k s) true (not b) false)
-unfolding by_order is_less is_equal
-past-start b s k = ap (λ o. (is_less o || (b && is_equal o))) (cmp-flip k s) ∙ go b (cmp k s)
+past-start : (b : Bool) (s k : List ℕ) → (is_lt (cmp s k) || (b && is_eq (cmp s k))) ≡ not (by_order (cmp k s) true (not b) false)
+unfolding by_order
+past-start b s k = ap (λ o. (is_lt o || (b && is_eq o))) (cmp-flip k s) ∙ go b (cmp k s)
   where
-    go : (b : Bool) (o : Order) → (is_less (flip o) || (b && is_equal (flip o))) ≡ not (by_order o true (not b) false)
+    go : (b : Bool) (o : Ordering) → (is_lt (ordering_reverse o) || (b && is_eq (ordering_reverse o))) ≡ not (by_order o true (not b) false)
     go true Less = refl
     go true Equal = refl
     go true Greater = refl
@@ -166,8 +166,8 @@ past-start b s k = ap (λ o. (is_less o || (b && is_equal o))) (cmp-flip k s) �
     go false Equal = refl
     go false Greater = refl
 
-by_end : (b : Bool) (o : Order) → (is_less o || (b && is_equal o)) ≡ by_order o true b false
-unfolding by_order is_less is_equal
+by_end : (b : Bool) (o : Ordering) → (is_lt o || (b && is_eq o)) ≡ by_order o true b false
+unfolding by_order
 by_end b Less = refl
 by_end true Equal = refl
 by_end false Equal = refl
@@ -176,7 +176,7 @@ by_end false Greater = refl
 
 -- "keys above start (or equal, if inclusive) and below end (likewise)"
 pub between_run : (i j : Bool) (s e : List ℕ) (es : List Entry) → Sorted es
-    → only (λ (x : Entry). (is_less (cmp s x.key) || (i && is_equal (cmp s x.key))) && (is_less (cmp x.key e) || (j && is_equal (cmp x.key e)))) es
+    → only (λ (x : Entry). (is_lt (cmp s x.key) || (i && is_eq (cmp s x.key))) && (is_lt (cmp x.key e) || (j && is_eq (cmp x.key e)))) es
     ≡ entries_from false (cond i (below s es) (up_to s es)) (cond j (up_to e es) (below e es) - cond i (below s es) (up_to s es)) es
 unfolding reached
 between_run i j s e es h =
@@ -192,30 +192,30 @@ between_run i j s e es h =
     end true = refl
     end false = refl
 
-above-run : (k : List ℕ) (es : List Entry) → Sorted es → only (λ (x : Entry). is_less (cmp k x.key)) es ≡ entries_from false (up_to k es) (length es - up_to k es) es
-unfolding reached by_order is_less
+above-run : (k : List ℕ) (es : List Entry) → Sorted es → only (λ (x : Entry). is_lt (cmp k x.key)) es ≡ entries_from false (up_to k es) (length es - up_to k es) es
+unfolding reached by_order
 above-run k es h =
     only-alike _ (λ (x : Entry). not (reached true k x) && true) (λ (x : Entry). alike x.key) es
     ∙ together (reached true k) (λ x. true) es (falls true k es h) (all-fall es)
     ∙ ap₂ (λ a b. entries_from false a (b - a) es) (number-reached true k es) (all_pass es)
   where
-    both : (o : Order) → is_less (flip o) ≡ (not (by_order o true true false) && true)
+    both : (o : Ordering) → is_lt (ordering_reverse o) ≡ (not (by_order o true true false) && true)
     both Less = refl
     both Equal = refl
     both Greater = refl
 
-    alike : (x : List ℕ) → is_less (cmp k x) ≡ (not (by_order (cmp x k) true true false) && true)
-    alike x = ap is_less (cmp-flip x k) ∙ both (cmp x k)
+    alike : (x : List ℕ) → is_lt (cmp k x) ≡ (not (by_order (cmp x k) true true false) && true)
+    alike x = ap is_lt (cmp-flip x k) ∙ both (cmp x k)
 
-below-run : (k : List ℕ) (es : List Entry) → Sorted es → only (λ (x : Entry). is_less (cmp x.key k)) es ≡ entries_from false 0 (below k es) es
-unfolding reached by_order is_less
+below-run : (k : List ℕ) (es : List Entry) → Sorted es → only (λ (x : Entry). is_lt (cmp x.key k)) es ≡ entries_from false 0 (below k es) es
+unfolding reached by_order
 below-run k es h =
     only-alike _ (λ (x : Entry). not false && reached false k x) (λ (x : Entry). alike (cmp x.key k)) es
     ∙ together (λ x. false) (reached false k) es (none-falls es) (falls false k es h)
     ∙ ap₂ (λ a b. entries_from false a (b - a) es) (none_passes es) (number-reached false k es)
     ∙ (let z : below k es - 0 ≡ below k es = omega arith in ap (λ n. entries_from false 0 n es) z)
   where
-    alike : (o : Order) → is_less o ≡ by_order o true false false
+    alike : (o : Ordering) → is_lt o ≡ by_order o true false false
     alike Less = refl
     alike Equal = refl
     alike Greater = refl
@@ -224,10 +224,10 @@ below-run k es h =
 
 pub next-run : (f : Entry → Bool) (k : List ℕ) (es : List Entry) → Sorted es → next_of k (only f es) ≡ first (only f (entries_from false (up_to k es) (length es - up_to k es) es))
 unfolding next_of
-next-run f k es h = ap first (only-only (λ (x : Entry). is_less (cmp k x.key)) f es ∙ ap (only f) (above-run k es h))
+next-run f k es h = ap first (only-only (λ (x : Entry). is_lt (cmp k x.key)) f es ∙ ap (only f) (above-run k es h))
 
 pub previous-run : (f : Entry → Bool) (k : List ℕ) (es : List Entry) → Sorted es → previous_of k (only f es) ≡ first (only f (entries_from true (below k es - 1) (below k es) es))
 unfolding previous_of
 previous-run f k es h =
-    ap (λ xs. first (reverse xs)) (only-only (λ (x : Entry). is_less (cmp x.key k)) f es ∙ ap (only f) (below-run k es h))
+    ap (λ xs. first (reverse xs)) (only-only (λ (x : Entry). is_lt (cmp x.key k)) f es ∙ ap (only f) (below-run k es h))
     ∙ ap first (only-reverse f (entries_from false 0 (below k es) es) ∙ ap (only f) (run-reverse 0 (below k es) es ∙ (let z : 0 + below k es - 1 ≡ below k es - 1 = omega arith in ap (λ i. entries_from true i (below k es) es) z)))

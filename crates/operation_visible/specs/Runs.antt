@@ -18,6 +18,10 @@ along r es = entries_from r.reverse r.first r.count es
 abbrev pub run : ℕ → ℕ → Bool → Run
 run i n reverse = record { first = i; count = n; reverse = reverse }
 
+-- a run without its first place
+abbrev pub rest_of : Run → Run
+rest_of r = run (onward r.reverse r.first) (r.count - 1) r.reverse
+
 unfoldable pub skipped_from : (Entry → Bool) → List Entry → Bool → ℕ → ℕ → Run
 skipped_from f es reverse i zero = run i 0 reverse
 skipped_from f es reverse i (suc n) = cond (f (get_or es i no_entry)) (run i (suc n) reverse) (skipped_from f es reverse (onward reverse i) n)

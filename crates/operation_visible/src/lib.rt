@@ -5,7 +5,7 @@ ghost use Rattle.std.specs.Prelude.{◌≡◌, ◌+◌, ◌≤◌, ◌<◌, get_
 ghost use Rattle.store_block.specs.Entry.{no_entry};
 ghost use Rattle.store_layout.specs.Store.{entries_of, Good};
 ghost use Rattle.access_record.specs.Record.{Placed};
-ghost use Rattle.operation_visible.specs.Runs.{onward, skipped};
+ghost use Rattle.operation_visible.specs.Runs.{onward, rest_of, skipped};
 ghost use Rattle.operation_visible.specs.Seen.{seen_by};
 
 use access_record::Record;
@@ -20,11 +20,25 @@ pub struct Viewer {
 }
 
 // Places of the store in a row: the first one, how many, and whether they go down.
-#[derive(Drop)]
+#[derive(Clone, Copy)]
 pub struct Run {
     pub first: usize,
     pub count: usize,
     pub reverse: bool,
+}
+
+impl Run {
+    // The run without its first place.
+    pub fn rest(self) -> Run
+        requires { (0 < self.count) × (self.first + self.count ≤ 256) }
+        ensures { (result ≡ rest_of self) × (result.first + result.count ≤ 256) }
+    {
+        Run {
+            first: next_place(self.first, self.reverse),
+            count: self.count - 1,
+            reverse: self.reverse,
+        }
+    }
 }
 
 // Whether a usable scope with the permission fits the key at a place.
@@ -49,13 +63,7 @@ pub fn next_place(i: usize, reverse: bool) -> usize
     requires { i ≤ 256 }
     ensures { result ≡ onward reverse i }
 {
-    if !reverse {
-        return i + 1;
-    }
-    if i == 0 {
-        return 0;
-    }
-    i - 1
+    if reverse { i.saturating_sub(1) } else { i + 1 }
 }
 
 // What is left of a run from its first visible place on.
@@ -63,23 +71,13 @@ pub fn skip_hidden(store: &[u8], device: &Record, viewer: Viewer, permission: u8
     requires { Good store.now × Placed device.now viewer.acl × (permission < 16) × (run.first + run.count ≤ 256) }
     ensures { (result ≡ skipped (seen_by device.now viewer permission) (entries_of store.now) run) × (result.first + result.count ≤ 256) }
 {
-    let reverse = run.reverse;
-    let mut first = run.first;
-    let mut count = run.count;
-    while 0 < count {
-        if is_visible(store, device, viewer, permission, first) {
-            return Run {
-                first,
-                count,
-                reverse,
-            };
+    // A while: what is left of the run is the answer.
+    let mut left = run;
+    while 0 < left.count {
+        if is_visible(store, device, viewer, permission, left.first) {
+            return left;
         }
-        first = next_place(first, reverse);
-        count -= 1;
+        left = left.rest();
     }
-    Run {
-        first,
-        count,
-        reverse,
-    }
+    left
 }

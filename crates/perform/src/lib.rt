@@ -15,7 +15,7 @@ ghost use Rattle.reply_send.specs.Sent.{replied};
 ghost use Rattle.reply_send.specs.Answers.{Answers, before, after};
 
 use access_record::Record;
-use fields_lookup::parts::{Part, Signed};
+use fields_lookup::parts::Part;
 use operation_visible::Viewer;
 use perform_get::{Which, get, get_version};
 use perform_log::get_log;
@@ -34,13 +34,13 @@ fn setup(
     signing_key: &[u8],
     reply_to: ReplyTo,
     device: &mut Record,
-    version: Signed,
+    version: Option<i64>,
 ) -> usize
     requires { (4096 ≤ length out.old) × (length signing_key.now ≤ 64) }
     ensures { (t : State) → t.device ≡ device.old
         → Answers (λ s. replied reply_to signing_key.now (set_up s (signed_view version))) t out result (with_device t device.new) }
 {
-    operation_put::setup::setup(device, version.has, version.value);
+    operation_put::setup::setup(device, version.is_some(), version.unwrap_or(0));
     status(out, signing_key, reply_to, SUCCESS)
 }
 
@@ -107,8 +107,7 @@ pub fn perform(
     let next = Which::Next(viewer);
     let below = Which::Previous(viewer);
     match operation {
-        Operation::Noop => status(out, signing_key, to, SUCCESS),
-        Operation::FlushAllData => status(out, signing_key, to, SUCCESS),
+        Operation::Noop | Operation::FlushAllData => status(out, signing_key, to, SUCCESS),
         Operation::Get => get(out, signing_key, to, own, store, device, command, entry),
         Operation::GetVersion => get_version(out, signing_key, to, store, command, entry),
         Operation::GetNext => get(out, signing_key, to, next, store, device, command, entry),

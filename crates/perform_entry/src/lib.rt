@@ -1,15 +1,13 @@
 // GET, GETNEXT and GETPREVIOUS: an entry of the store, shown in a reply.
 #![tactic(auto)]
 
-ghost use Rattle.std.specs.Prelude.{cond, ◌≡◌, ◌≤◌, length};
+ghost use Rattle.std.specs.Prelude.{cond, ◌≡◌, ◌≤◌, length, Some};
 ghost use Rattle.protocol.specs.State.{State};
 ghost use Rattle.protocol.specs.Judge.{shown};
-ghost use Rattle.operation_get.specs.declared.Shown.TheVariants.{Found};
 ghost use Rattle.operation_get.specs.Shown.{PartsInside, entry_shown};
 ghost use Rattle.reply_send.specs.Sent.{replied};
 ghost use Rattle.reply_send.specs.Answers.{Answers};
 
-use operation_get::Shown;
 use protocol::status::NOT_FOUND;
 use reply_command::ReplyTo;
 use reply_send::send::status;
@@ -19,10 +17,7 @@ use store_layout::Parts;
 fn shown_length(metadata: bool, len: usize) -> usize
     ensures { (result ≡ cond metadata 0 len) × (result ≤ len) }
 {
-    if metadata {
-        return 0;
-    }
-    len
+    if metadata { 0 } else { len }
 }
 
 // An entry, or NOT_FOUND.
@@ -31,7 +26,7 @@ pub fn show(
     signing_key: &[u8],
     reply_to: ReplyTo,
     store: &[u8],
-    found: Shown,
+    found: Option<Parts>,
     metadata: bool,
 ) -> usize
     requires { (4096 ≤ length out.old) × (length signing_key.now ≤ 64) × PartsInside store.now found }
@@ -39,8 +34,8 @@ pub fn show(
         → Answers (λ s. replied reply_to signing_key.now (shown s metadata (entry_shown store.now found))) t out result t }
 {
     match found {
-        Shown::Found(parts) => show_entry(out, signing_key, reply_to, store, parts, metadata),
-        Shown::Missing => status(out, signing_key, reply_to, NOT_FOUND),
+        Some(parts) => show_entry(out, signing_key, reply_to, store, parts, metadata),
+        None => status(out, signing_key, reply_to, NOT_FOUND),
     }
 }
 
@@ -52,9 +47,9 @@ fn show_entry(
     parts: Parts,
     metadata: bool,
 ) -> usize
-    requires { (4096 ≤ length out.old) × (length signing_key.now ≤ 64) × PartsInside store.now (Found parts) }
+    requires { (4096 ≤ length out.old) × (length signing_key.now ≤ 64) × PartsInside store.now (Some parts) }
     ensures { (t : State)
-        → Answers (λ s. replied reply_to signing_key.now (shown s metadata (entry_shown store.now (Found parts)))) t out result t }
+        → Answers (λ s. replied reply_to signing_key.now (shown s metadata (entry_shown store.now (Some parts)))) t out result t }
 {
     let key = parts.key.start;
     let version = parts.version.start;

@@ -12,7 +12,6 @@ ghost use Rattle.reply_send.specs.Sent.{replied};
 ghost use Rattle.reply_send.specs.Answers.{Answers};
 
 use access_record::Record;
-use operation_get::Shown;
 use operation_visible::Viewer;
 use perform_entry::show;
 use protocol::status::NOT_FOUND;
@@ -20,6 +19,7 @@ use reply_command::ReplyTo;
 use reply_send::send::{key_value_reply, status};
 use request_numbers::flag_of;
 use request_parts::KeyValue;
+use store_layout::Parts;
 
 // The version of an entry, or NOT_FOUND.
 fn show_version(
@@ -27,19 +27,19 @@ fn show_version(
     signing_key: &[u8],
     reply_to: ReplyTo,
     store: &[u8],
-    found: Shown,
+    found: Option<Parts>,
 ) -> usize
     requires { (4096 ≤ length out.old) × (length signing_key.now ≤ 64) × PartsInside store.now found }
     ensures { (t : State)
         → Answers (λ s. replied reply_to signing_key.now (version_shown s (entry_shown store.now found))) t out result t }
 {
     match found {
-        Shown::Found(parts) => {
+        Some(parts) => {
             let start = parts.version.start;
             let end = start + parts.version.len;
             key_value_reply(out, signing_key, reply_to, &store[start..end])
         }
-        Shown::Missing => status(out, signing_key, reply_to, NOT_FOUND),
+        None => status(out, signing_key, reply_to, NOT_FOUND),
     }
 }
 
@@ -51,7 +51,7 @@ pub enum Which {
     Previous(Viewer),
 }
 
-fn find_entry(which: Which, store: &[u8], device: &Record, key: &[u8]) -> Shown
+fn find_entry(which: Which, store: &[u8], device: &Record, key: &[u8]) -> Option<Parts>
     requires { Good store.now × Looks device.now which }
     ensures { Showing store.now result (λ s. sought which device.now s key.now) }
 {

@@ -3,29 +3,34 @@
 
 ghost use Rattle.std.specs.Prelude.{◌≡◌, true, false, cond, List, ℕ, ◌≤◌, eqb, length};
 ghost use Rattle.store_layout.specs.Store.{Good};
+ghost use Rattle.protocol.specs.Failure.{code_of};
 ghost use Rattle.protocol.specs.State.{State, with_store};
 ghost use Rattle.protocol.specs.Judge.{fails, entry_of, put, delete_by, key_value_good, changed};
 ghost use Rattle.request_parts.specs.Views.{KeyValueLies, key_value_view};
 ghost use Rattle.reply_send.specs.Sent.{replied};
 ghost use Rattle.reply_send.specs.Answers.{Answers};
 
-use protocol::status::SUCCESS;
+use protocol::status::Failure;
 use reply_command::ReplyTo;
 use reply_send::send::{key_value_reply, status};
 use request_numbers::{flag_of, number_or};
 use request_parts::KeyValue;
 
-// The reply of PUT and DELETE: an empty keyValue on success. Where the code is another the store is as it was.
-fn reply_changed(out: &mut [u8], signing_key: &[u8], reply_to: ReplyTo, code: u64) -> usize
+// The reply of PUT and DELETE: an empty keyValue where it is done. Where it fails the store is as it was.
+fn reply_changed(
+    out: &mut [u8],
+    signing_key: &[u8],
+    reply_to: ReplyTo,
+    done: Result<(), Failure>,
+) -> usize
     requires { (4096 ≤ length out.old) × (length signing_key.now ≤ 64) }
-    ensures { (t : State) (l : List ℕ) → (eqb code 1 ≡ false → l ≡ t.store)
-        → Answers (λ s. replied reply_to signing_key.now (cond (eqb code 1) (changed s l) (fails s code))) t out result (with_store t l) }
+    ensures { (t : State) (l : List ℕ) → (eqb (code_of done) 1 ≡ false → l ≡ t.store)
+        → Answers (λ s. replied reply_to signing_key.now (cond (eqb (code_of done) 1) (changed s l) (fails s (code_of done)))) t out result (with_store t l) }
 {
-    if code != SUCCESS {
-        return status(out, signing_key, reply_to, code);
+    match done {
+        Ok(()) => key_value_reply(out, signing_key, reply_to, &[]),
+        Err(failure) => status(out, signing_key, reply_to, failure.number()),
     }
-    let none = [0u8; 0];
-    key_value_reply(out, signing_key, reply_to, &none)
 }
 
 // PUT, with its reply.
@@ -49,7 +54,7 @@ pub fn put(
     let new = key_value.version.start;
     let old = key_value.expected.start;
     let tag = key_value.tag.start;
-    let code = operation_put::put::put(
+    let done = operation_put::put::put(
         store,
         &command[key..key + key_value.key.len],
         &command[new..new + key_value.version.len],
@@ -59,7 +64,7 @@ pub fn put(
         flag_of(key_value.force),
         value,
     );
-    reply_changed(out, signing_key, reply_to, code)
+    reply_changed(out, signing_key, reply_to, done)
 }
 
 // DELETE, with its reply.
@@ -80,11 +85,11 @@ pub fn delete(
     let key = key_value.key.start;
     let old = key_value.expected.start;
     let force = flag_of(key_value.force);
-    let code = operation_put::delete::delete(
+    let done = operation_put::delete::delete(
         store,
         &command[key..key + key_value.key.len],
         &command[old..old + key_value.expected.len],
         force,
     );
-    reply_changed(out, signing_key, reply_to, code)
+    reply_changed(out, signing_key, reply_to, done)
 }

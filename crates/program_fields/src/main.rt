@@ -1,26 +1,17 @@
 // Reads messages, one to a line of its input: the kind and the bytes in hex. Prints the listed fields of each, or 'refused'.
 #![tactic(auto)]
 
-use base_integers::signed;
 use fields_decode::nested::reads;
-use fields_rule::{Judged, judge};
+use fields_rule::judge;
 use fields_schema::Kind;
 use fields_value::Taken;
-use fields_wire_reader::{next_of, read_field};
-use program_words::{part, place_of, read_full, unhex, write, write_hex};
+use fields_wire_reader::read_field;
+use program_words::{part, read_full, unhex, write, write_hex};
 use std::io;
 
 fn show_number(rt: &impl Print, v: u64) -> io::Result<()> {
-    if signed(v) < 0 {
-        write(rt, b"-")?;
-        let below = 18446744073709551615 - v;
-        if below < 18446744073709551615 {
-            let size = below + 1;
-            print!(rt; "{size}")?;
-        }
-        return Ok(());
-    }
-    print!(rt; "{v}")
+    let x = v.cast_signed();
+    print!(rt; "{x}")
 }
 
 // A field that is no message, or where one begins.
@@ -42,12 +33,7 @@ fn show_plain(rt: &impl Print, s: &[u8], number: usize, what: &Taken) -> io::Res
             write_hex(rt, part(s, *start, 4))?;
             write(rt, b";")
         }
-        Taken::Inside {
-            kind: _,
-            start: _,
-            len: _,
-        } => write(rt, b"{"),
-        Taken::Wrong => write(rt, b"?"),
+        Taken::Inside { .. } => write(rt, b"{"),
     }
 }
 
@@ -55,26 +41,14 @@ fn show_plain(rt: &impl Print, s: &[u8], number: usize, what: &Taken) -> io::Res
 #[cycle(show_show_field)]
 fn show(rt: &impl Print, s: &[u8], kind: Kind, depth: usize) -> io::Result<()> {
     let mut at = 0;
-    while at < s.len() {
-        let f = read_field(s, at);
-        let next = next_of(f);
-        if next <= at {
+    while let Some(f) = read_field(s, at) {
+        let Ok(judged) = judge(kind, 0, f) else {
             return Ok(());
+        };
+        if let Some(t) = judged {
+            show_field(rt, s, t.number, t.what, depth)?;
         }
-        match judge(kind, 0, f) {
-            Judged::Refuse => {
-                return Ok(());
-            }
-            Judged::Skip => {}
-            Judged::Take {
-                number,
-                seen: _,
-                what,
-            } => {
-                show_field(rt, s, number, what, depth)?;
-            }
-        }
-        at = next;
+        at = f.next;
     }
     Ok(())
 }
@@ -137,11 +111,8 @@ fn case(rt: &impl Print, line: &[u8]) -> io::Result<()> {
 }
 
 fn lines(rt: &impl Print, s: &[u8]) -> io::Result<()> {
-    let mut at = 0;
-    while at < s.len() {
-        let end = place_of(s, b'\n', at);
-        case(rt, &s[at..end])?;
-        at = end + 1;
+    for line in s.split(|b| *b == b'\n') {
+        case(rt, line)?;
     }
     Ok(())
 }

@@ -10,9 +10,8 @@ use std::io;
 fn room(rt: &impl Print, said: &[u8], host: Host) -> io::Result<Host> {
     let next = done(rt, rest(said), host)?;
     Ok(Host {
-        store: next.store,
         room: number(said) as usize,
-        row: next.row,
+        ..next
     })
 }
 

@@ -3,17 +3,18 @@ use crate::slots::{Slots, keep};
 use crate::{Host, Store, row};
 use access_record::Record;
 use base_integers::signed;
-use device_format::Formatted;
+use device_format::FormatError;
 use program_reply::text::under;
 use program_words::{number, part, rest, unhex, word, write};
 use std::io;
-use store_local_read::Local;
+use store_layout::EntryPart;
+use store_local_read::StoreBad;
 
-fn made(rt: &impl Print, r: Formatted) -> io::Result<()> {
+fn made(rt: &impl Print, r: Result<(), FormatError>) -> io::Result<()> {
     match r {
-        Formatted::Made => write(rt, b"made\n"),
-        Formatted::StoreBad => write(rt, b"refusal 2 STORE_BAD\n"),
-        Formatted::KeyBad => write(rt, b"refusal 6 KEY_BAD\n"),
+        Ok(()) => write(rt, b"made\n"),
+        Err(FormatError::StoreBad) => write(rt, b"refusal 2 STORE_BAD\n"),
+        Err(FormatError::KeyBad) => write(rt, b"refusal 6 KEY_BAD\n"),
     }
 }
 
@@ -44,11 +45,7 @@ pub fn format(
     let n = number(said) as usize;
     let next = row(rt, rest(after), host)?;
     make(rt, store, n, device, word(after))?;
-    Ok(Host {
-        store: n,
-        room: next.room,
-        row: next.row,
-    })
+    Ok(Host { store: n, ..next })
 }
 
 pub fn connect(rt: &impl Print, said: &[u8], slots: &mut Slots, host: Host) -> io::Result<Host> {
@@ -62,11 +59,11 @@ pub fn connect(rt: &impl Print, said: &[u8], slots: &mut Slots, host: Host) -> i
     Ok(next)
 }
 
-fn shown_as(rt: &impl Print, r: Local) -> io::Result<()> {
+fn shown_as(rt: &impl Print, r: Result<Option<EntryPart>, StoreBad>) -> io::Result<()> {
     match r {
-        Local::Value { start: _, len: _ } => write(rt, b"found\n"),
-        Local::NotFound => write(rt, b"not found\n"),
-        Local::StoreBad => write(rt, b"refusal 2 STORE_BAD\n"),
+        Ok(Some(_)) => write(rt, b"found\n"),
+        Ok(None) => write(rt, b"not found\n"),
+        Err(StoreBad) => write(rt, b"refusal 2 STORE_BAD\n"),
     }
 }
 

@@ -6,8 +6,6 @@ mod calls;
 mod rescue;
 pub mod slots;
 
-ghost use Rattle.std.specs.Prelude.{◌≤◌};
-
 use crate::beside::beside;
 use crate::calls::{connect, format, local_read};
 use crate::rescue::rescue;
@@ -28,31 +26,15 @@ pub type Store = [u8; 65536];
 
 pub type Readings = [u8; 134];
 
-fn bit(b: bool) -> u64
-    ensures { result ≤ 1 }
-{
-    if b {
-        return 1;
-    }
-    0
-}
-
 fn number_after(row: u64) -> u64 {
-    if row < 999999 {
-        return row + 1;
-    }
-    0
+    if row < 999999 { row + 1 } else { 0 }
 }
 
 // Begins the next row.
 pub fn row(rt: &impl Print, asked: &[u8], host: Host) -> io::Result<Host> {
     let next = number_after(host.row);
     program_reply::row(rt, next, asked)?;
-    Ok(Host {
-        store: host.store,
-        room: host.room,
-        row: next,
-    })
+    Ok(Host { row: next, ..host })
 }
 
 // A row of what the host does beside the calls.

@@ -1,19 +1,17 @@
 // The rescue, and what became of the blocks.
-use crate::{Host, bit, row};
+ghost use Rattle.std.specs.Prelude.{◌≡◌, ◌==◌, count_by};
+
+use crate::{Host, row};
 use program_reply::columns::newline;
 use program_words::write;
 use std::io;
-use store_rescue::rule::Rescued;
+use store_rescue::rule::RescueError;
 
 // How often b stands in a report.
-fn times(report: &[u8], b: u8) -> u64 {
-    let mut n = 0;
-    let mut i = 0;
-    while i < report.len() {
-        n += bit(report[i] == b);
-        i += 1;
-    }
-    n
+fn times(report: &[u8], b: u8) -> usize
+    ensures { result ≡ count_by (λ x. x == b) report.now }
+{
+    report.iter().filter(|x| **x == b).count()
 }
 
 fn amount(rt: &impl Print, name: &[u8], report: &[u8], b: u8) -> io::Result<()> {
@@ -31,11 +29,11 @@ fn amounts(rt: &impl Print, report: &[u8]) -> io::Result<()> {
     newline(rt)
 }
 
-fn rescued(rt: &impl Print, r: Rescued, report: &[u8]) -> io::Result<()> {
+fn rescued(rt: &impl Print, r: Result<(), RescueError>, report: &[u8]) -> io::Result<()> {
     match r {
-        Rescued::Done => amounts(rt, report),
-        Rescued::StoreBad => write(rt, b"refusal 2 STORE_BAD\n"),
-        Rescued::ReportBad => write(rt, b"refusal 8 REPORT_BAD\n"),
+        Ok(()) => amounts(rt, report),
+        Err(RescueError::StoreBad) => write(rt, b"refusal 2 STORE_BAD\n"),
+        Err(RescueError::ReportBad) => write(rt, b"refusal 8 REPORT_BAD\n"),
     }
 }
 
@@ -49,10 +47,8 @@ pub fn rescue(rt: &impl Print, asked: &[u8], store: &mut [u8], host: Host) -> io
     let next = row(rt, asked, host)?;
     let n = host.store;
     let blocks = n / 512;
-    if n <= store.len() {
-        if blocks <= 128 {
-            rescue_lent(rt, &mut store[0..n], &mut report[0..blocks])?;
-        }
+    if n <= store.len() && blocks <= 128 {
+        rescue_lent(rt, &mut store[0..n], &mut report[0..blocks])?;
     }
     Ok(next)
 }

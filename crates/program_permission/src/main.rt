@@ -5,10 +5,10 @@ ghost use Rattle.std.specs.Prelude.{◌<◌};
 
 use access_acl_write::{add_acl, add_scope};
 use access_permission::{DELETE, RANGE, READ, SECURITY, SETUP, WRITE};
+use access_record::Record;
 use access_record::offsets::RECORD_BYTES;
-use access_record::{IdentityPlace, Record};
-use base_integers::word;
-use std::io;
+use access_verdict::verdict::{permits, permits_any};
+use std::{fmt, io};
 
 const MINUS_ONE: i64 = -1;
 
@@ -54,7 +54,55 @@ fn others(device: &mut Record) {
     add_scope(device, 7, 0, 0, 9, true, b"z");
 }
 
-// ---- the verdict on an identity
+// ---- what is asked
+
+#[derive(Clone, Copy)]
+enum Permission {
+    Read,
+    Write,
+    Delete,
+    Range,
+    Setup,
+    Security,
+}
+
+impl Permission {
+    fn number(self) -> u8
+        ensures { result < 16 }
+    {
+        match self {
+            Permission::Read => READ,
+            Permission::Write => WRITE,
+            Permission::Delete => DELETE,
+            Permission::Range => RANGE,
+            Permission::Setup => SETUP,
+            Permission::Security => SECURITY,
+        }
+    }
+}
+
+impl fmt::Display for Permission {
+    fn fmt<W: fmt::Write>(&self, f: &mut fmt::Formatter<W>) -> fmt::Result {
+        f.write_str(match self {
+            Permission::Read => "READ",
+            Permission::Write => "WRITE",
+            Permission::Delete => "DELETE",
+            Permission::Range => "RANGE",
+            Permission::Setup => "SETUP",
+            Permission::Security => "SECURITY",
+        })
+    }
+}
+
+// A permission for an identity, with a key or with none.
+#[derive(Clone, Copy)]
+struct Asked<'a> {
+    identity: i64,
+    permission: Permission,
+    key: Option<&'a str>,
+}
+
+// ---- the verdict
 
 #[derive(Drop)]
 enum Verdict {
@@ -64,206 +112,149 @@ enum Verdict {
     Yes,
 }
 
-fn judge(device: &Record, identity: i64, protected: bool, permission: u8, key: &[u8]) -> Verdict
-    requires { permission < 16 }
-{
-    if !access_check::record_good(device) {
-        return Verdict::Bad;
-    }
-    match access_identity::find_identity(device, identity) {
-        IdentityPlace::Nobody => Verdict::Nobody,
-        IdentityPlace::At(place) => {
-            if access_verdict::verdict::permits(device, place, protected, permission, key) {
-                return Verdict::Yes;
-            }
-            Verdict::No
-        }
+impl fmt::Display for Verdict {
+    fn fmt<W: fmt::Write>(&self, f: &mut fmt::Formatter<W>) -> fmt::Result {
+        f.write_str(match self {
+            Verdict::Bad => "bad",
+            Verdict::Nobody => "nobody",
+            Verdict::No => "no",
+            Verdict::Yes => "yes",
+        })
     }
 }
 
-fn judge_any(device: &Record, identity: i64, protected: bool, permission: u8) -> Verdict
-    requires { permission < 16 }
-{
+fn judge(device: &Record, asked: Asked, protected: bool) -> Verdict {
     if !access_check::record_good(device) {
         return Verdict::Bad;
     }
-    match access_identity::find_identity(device, identity) {
-        IdentityPlace::Nobody => Verdict::Nobody,
-        IdentityPlace::At(place) => {
-            if access_verdict::verdict::permits_any(device, place, protected, permission) {
-                return Verdict::Yes;
-            }
-            Verdict::No
-        }
-    }
+    let Some(place) = access_identity::find_identity(device, asked.identity) else {
+        return Verdict::Nobody;
+    };
+    let permission = asked.permission.number();
+    let yes = match asked.key {
+        Some(key) => permits(device, place, protected, permission, key.as_bytes()),
+        None => permits_any(device, place, protected, permission),
+    };
+    if yes { Verdict::Yes } else { Verdict::No }
 }
 
 // ---- a line for each cell
 
-fn write(rt: &impl Print, text: &[u8]) -> io::Result<()> {
-    rt.write_all(text)
-}
-
-fn write_identity(rt: &impl Print, identity: i64) -> io::Result<()> {
-    if identity == MINUS_ONE {
-        return write(rt, b"-1");
+fn cell(rt: &impl Print, device: &Record, asked: Asked, protected: bool) -> io::Result<()> {
+    let verdict = judge(device, asked, protected);
+    let identity = asked.identity;
+    let permission = asked.permission;
+    print!(rt; "{identity} {permission}")?;
+    if let Some(key) = asked.key {
+        print!(rt; " \"{key}\"")?;
     }
-    let number = word(identity);
-    print!(rt; "{number}")
+    let connection = if protected { "protected" } else { "plain" };
+    println!(rt; " {connection} {verdict}")
 }
 
-fn write_permission(rt: &impl Print, permission: u8) -> io::Result<()> {
-    match permission {
-        0 => write(rt, b" READ"),
-        1 => write(rt, b" WRITE"),
-        2 => write(rt, b" DELETE"),
-        3 => write(rt, b" RANGE"),
-        4 => write(rt, b" SETUP"),
-        8 => write(rt, b" SECURITY"),
-        _ => write(rt, b" ?"),
-    }
-}
-
-fn write_key(rt: &impl Print, key: &[u8]) -> io::Result<()> {
-    write(rt, b" \"")?;
-    write(rt, key)?;
-    write(rt, b"\"")
-}
-
-fn write_cell(rt: &impl Print, protected: bool, verdict: Verdict) -> io::Result<()> {
-    if protected {
-        write(rt, b" protected")?;
-    } else {
-        write(rt, b" plain")?;
-    }
-    match verdict {
-        Verdict::Bad => write(rt, b" bad\n"),
-        Verdict::Nobody => write(rt, b" nobody\n"),
-        Verdict::No => write(rt, b" no\n"),
-        Verdict::Yes => write(rt, b" yes\n"),
-    }
-}
-
-fn cell(
+fn rows(
     rt: &impl Print,
     device: &Record,
-    identity: i64,
-    protected: bool,
-    permission: u8,
-    key: &[u8],
-) -> io::Result<()>
-    requires { permission < 16 }
-{
-    write_identity(rt, identity)?;
-    write_permission(rt, permission)?;
-    write_key(rt, key)?;
-    write_cell(
-        rt,
-        protected,
-        judge(device, identity, protected, permission, key),
-    )
-}
-
-fn row(
-    rt: &impl Print,
-    device: &Record,
-    identity: i64,
-    permission: u8,
-    key: &[u8],
-) -> io::Result<()>
-    requires { permission < 16 }
-{
-    cell(rt, device, identity, false, permission, key)?;
-    cell(rt, device, identity, true, permission, key)
-}
-
-fn cell_any(
-    rt: &impl Print,
-    device: &Record,
-    identity: i64,
-    protected: bool,
-    permission: u8,
-) -> io::Result<()>
-    requires { permission < 16 }
-{
-    write_identity(rt, identity)?;
-    write_permission(rt, permission)?;
-    write_cell(
-        rt,
-        protected,
-        judge_any(device, identity, protected, permission),
-    )
-}
-
-fn row_any(rt: &impl Print, device: &Record, identity: i64, permission: u8) -> io::Result<()>
-    requires { permission < 16 }
-{
-    cell_any(rt, device, identity, false, permission)?;
-    cell_any(rt, device, identity, true, permission)
+    rows: &[(i64, Permission, Option<&str>)],
+) -> io::Result<()> {
+    for (identity, permission, key) in rows {
+        let asked = Asked {
+            identity: *identity,
+            permission: *permission,
+            key: *key,
+        };
+        cell(rt, device, asked, false)?;
+        cell(rt, device, asked, true)?;
+    }
+    Ok(())
 }
 
 // ---- the rows
 
 fn client_rows(rt: &impl Print, device: &Record) -> io::Result<()> {
-    row(rt, device, 1, READ, b"foo1")?;
-    row(rt, device, 1, READ, b"bar")?;
-    row(rt, device, 1, WRITE, b"foo")?;
-    row(rt, device, 1, WRITE, b"foo/1")?;
-    row(rt, device, 1, WRITE, b"fo")?;
-    row(rt, device, 1, WRITE, b"xfoo")?;
-    row(rt, device, 1, WRITE, b"bar")?;
-    row(rt, device, 1, DELETE, b"foo1")?;
-    row_any(rt, device, 1, READ)?;
-    row_any(rt, device, 1, RANGE)?;
-    row_any(rt, device, 1, SECURITY)?;
-    row_any(rt, device, 2, SECURITY)?;
-    row_any(rt, device, 2, SETUP)?;
-    row_any(rt, device, 2, READ)?;
-    row(rt, device, 2, READ, b"foo1")?;
-    row(rt, device, 2, WRITE, b"foo1")
+    rows(
+        rt,
+        device,
+        &[
+            (1, Permission::Read, Some("foo1")),
+            (1, Permission::Read, Some("bar")),
+            (1, Permission::Write, Some("foo")),
+            (1, Permission::Write, Some("foo/1")),
+            (1, Permission::Write, Some("fo")),
+            (1, Permission::Write, Some("xfoo")),
+            (1, Permission::Write, Some("bar")),
+            (1, Permission::Delete, Some("foo1")),
+            (1, Permission::Read, None),
+            (1, Permission::Range, None),
+            (1, Permission::Security, None),
+            (2, Permission::Security, None),
+            (2, Permission::Setup, None),
+            (2, Permission::Read, None),
+            (2, Permission::Read, Some("foo1")),
+            (2, Permission::Write, Some("foo1")),
+        ],
+    )
 }
 
 fn reader_rows(rt: &impl Print, device: &Record) -> io::Result<()> {
-    row(rt, device, 3, READ, b"xyztest1")?;
-    row(rt, device, 3, READ, b"001test2")?;
-    row(rt, device, 3, READ, b"somethingElse")?;
-    row(rt, device, 3, READ, b"test123")?;
-    row(rt, device, 3, READ, b"1234test")?;
-    row(rt, device, 3, READ, b"xyztes")?;
-    row(rt, device, 3, READ, b"")?;
-    row(rt, device, 4, WRITE, b"a1")?;
-    row(rt, device, 4, WRITE, b"b1")?;
-    row(rt, device, 4, READ, b"a1")?;
-    row(rt, device, 4, READ, b"b1")?;
-    row(rt, device, 4, DELETE, b"a1")?;
-    row_any(rt, device, 4, READ)
+    rows(
+        rt,
+        device,
+        &[
+            (3, Permission::Read, Some("xyztest1")),
+            (3, Permission::Read, Some("001test2")),
+            (3, Permission::Read, Some("somethingElse")),
+            (3, Permission::Read, Some("test123")),
+            (3, Permission::Read, Some("1234test")),
+            (3, Permission::Read, Some("xyztes")),
+            (3, Permission::Read, Some("")),
+            (4, Permission::Write, Some("a1")),
+            (4, Permission::Write, Some("b1")),
+            (4, Permission::Read, Some("a1")),
+            (4, Permission::Read, Some("b1")),
+            (4, Permission::Delete, Some("a1")),
+            (4, Permission::Read, None),
+        ],
+    )
 }
 
 fn range_rows(rt: &impl Print, device: &Record) -> io::Result<()> {
-    row_any(rt, device, 5, RANGE)?;
-    row(rt, device, 5, RANGE, b"a1")?;
-    row(rt, device, 5, RANGE, b"m1")?;
-    row(rt, device, 5, RANGE, b"z1")?;
-    row(rt, device, 5, RANGE, b"")?;
-    row_any(rt, device, 5, READ)?;
-    row_any(rt, device, 7, READ)?;
-    row_any(rt, device, 7, RANGE)?;
-    row(rt, device, 7, READ, b"z1")?;
-    row(rt, device, 7, RANGE, b"a1")
+    rows(
+        rt,
+        device,
+        &[
+            (5, Permission::Range, None),
+            (5, Permission::Range, Some("a1")),
+            (5, Permission::Range, Some("m1")),
+            (5, Permission::Range, Some("z1")),
+            (5, Permission::Range, Some("")),
+            (5, Permission::Read, None),
+            (7, Permission::Read, None),
+            (7, Permission::Range, None),
+            (7, Permission::Read, Some("z1")),
+            (7, Permission::Range, Some("a1")),
+        ],
+    )
 }
 
 fn other_rows(rt: &impl Print, device: &Record) -> io::Result<()> {
-    row(rt, device, 6, READ, b"open")?;
-    row(rt, device, 6, READ, b"shut")?;
-    row(rt, device, 6, READ, b"pen")?;
-    row_any(rt, device, 6, READ)?;
-    row_any(rt, device, MINUS_ONE, SETUP)?;
-    row_any(rt, device, MINUS_ONE, SECURITY)?;
-    row_any(rt, device, MINUS_ONE, RANGE)?;
-    row(rt, device, MINUS_ONE, RANGE, b"zzzz")?;
-    row(rt, device, MINUS_ONE, READ, b"zzzz")?;
-    row(rt, device, 9, READ, b"foo1")?;
-    row_any(rt, device, 9, RANGE)
+    rows(
+        rt,
+        device,
+        &[
+            (6, Permission::Read, Some("open")),
+            (6, Permission::Read, Some("shut")),
+            (6, Permission::Read, Some("pen")),
+            (6, Permission::Read, None),
+            (MINUS_ONE, Permission::Setup, None),
+            (MINUS_ONE, Permission::Security, None),
+            (MINUS_ONE, Permission::Range, None),
+            (MINUS_ONE, Permission::Range, Some("zzzz")),
+            (MINUS_ONE, Permission::Read, Some("zzzz")),
+            (9, Permission::Read, Some("foo1")),
+            (9, Permission::Range, None),
+        ],
+    )
 }
 
 fn main(rt: HostRuntime) -> io::Result<()> {

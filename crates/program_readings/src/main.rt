@@ -5,17 +5,17 @@
 ghost use Rattle.std.specs.Prelude.{◌<◌, ◌≤◌};
 ghost use Rattle.log_readings.specs.Places.{Placed, Places};
 
-use log_binary32::{Sent, Temperature};
+use log_binary32::Temperature;
 use std::io;
 
 fn write(rt: &impl Print, b: &[u8]) -> io::Result<()> {
     rt.write_all(b)
 }
 
-fn show(rt: &impl Print, s: Sent) -> io::Result<()> {
+fn show(rt: &impl Print, s: Option<u32>) -> io::Result<()> {
     match s {
-        Sent::Bits(b) => print!(rt; "{b:08x}"),
-        Sent::Omitted => write(rt, b"omitted"),
+        Some(b) => print!(rt; "{b:08x}"),
+        None => write(rt, b"omitted"),
     }
 }
 
@@ -96,10 +96,10 @@ fn portions(rt: &impl Print) -> io::Result<()> {
     portion(rt, 99, 127)
 }
 
-fn added(sum: u32, s: Sent) -> u32 {
+fn added(sum: u32, s: Option<u32>) -> u32 {
     match s {
-        Sent::Bits(b) => sum.wrapping_add(b),
-        Sent::Omitted => sum.wrapping_add(1),
+        Some(b) => sum.wrapping_add(b),
+        None => sum.wrapping_add(1),
     }
 }
 
@@ -107,11 +107,9 @@ fn added(sum: u32, s: Sent) -> u32 {
 fn sweep(step: u32, count: u32) -> u32 {
     let mut sum: u32 = 0;
     let mut bits: u32 = 0;
-    let mut i: u32 = 0;
-    while i < count {
+    for _ in 0..count {
         sum = added(sum, log_binary32::lent_celsius(true, bits));
         bits = bits.wrapping_add(step);
-        i += 1;
     }
     sum
 }
@@ -134,10 +132,8 @@ fn places(
 ) -> io::Result<()>
     requires { Places s.now first count }
 {
-    let mut i = 0;
-    while i < count {
+    for i in 0..count {
         reading(rt, s, first + i, temperature)?;
-        i += 1;
     }
     Ok(())
 }
@@ -151,22 +147,9 @@ fn area(rt: &impl Print, s: &[u8]) -> io::Result<()> {
     places(rt, s, 4, log_readings::utilizations(s), false)
 }
 
-fn after(at: usize, end: usize) -> usize
-    requires { at < end }
-    ensures { (at < result) × (result ≤ end) }
-{
-    if end - at < 134 {
-        return end;
-    }
-    at + 134
-}
-
 fn areas(rt: &impl Print, b: &[u8]) -> io::Result<()> {
-    let mut at = 0;
-    while at < b.len() {
-        let next = after(at, b.len());
-        area(rt, &b[at..next])?;
-        at = next;
+    for lent in b.chunks(134) {
+        area(rt, lent)?;
     }
     Ok(())
 }

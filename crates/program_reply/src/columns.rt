@@ -14,16 +14,12 @@ pub fn newline(rt: &impl Print) -> io::Result<()> {
 
 // How many blanks stand before a number in seven places.
 fn before(v: u64) -> usize {
-    if v < 10 {
-        return 6;
+    match v {
+        0..=9 => 6,
+        10..=99 => 5,
+        100..=999 => 4,
+        _ => 3,
     }
-    if v < 100 {
-        return 5;
-    }
-    if v < 1000 {
-        return 4;
-    }
-    3
 }
 
 // A number below 10000 in seven places.
@@ -32,11 +28,11 @@ pub fn column(rt: &impl Print, v: u64) -> io::Result<()> {
     print!(rt; "{v}")
 }
 
-// Words in 64 places.
-pub fn label(rt: &impl Print, b: &[u8]) -> io::Result<()> {
+// Words in so many places, at most 64.
+pub fn label(rt: &impl Print, b: &[u8], places: usize) -> io::Result<()> {
     write(rt, b)?;
-    if b.len() < 64 {
-        blanks(rt, 64 - b.len())?;
+    if b.len() < places {
+        blanks(rt, places - b.len())?;
     }
     Ok(())
 }

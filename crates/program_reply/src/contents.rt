@@ -1,47 +1,55 @@
 // What the body of a reply has, a line for each part.
+ghost use Rattle.std.specs.Prelude.{◌-◌, length};
+ghost use Rattle.std.specs.Iterator.{at_most};
+
 use crate::columns::{blanks, newline};
 use crate::text::{text, under};
-use fields_wire_reader::{Found, next_of, number_of, read_field};
+use fields_wire_reader::{Found, Held, read_field};
 use program_words::{part, write};
 use std::io;
 
 // The bytes of a field of wire type 2; none for a field of another.
 fn bytes_of(s: &[u8], f: Found) -> &[u8] {
-    if let Found::Len {
-        number: _,
-        start,
-        len,
-        next: _,
-    } = f
-    {
-        return part(s, start, len);
+    match f.held {
+        Held::Len { start, len } => part(s, start, len),
+        _ => &[],
     }
-    &s[0..0]
+}
+
+// The fields of a message from a place on, up to what is none.
+#[derive(Drop)]
+struct Walk<'a> {
+    s: &'a [u8],
+    at: usize,
+}
+
+impl<'a> Iterator for Walk<'a> {
+    type Item = Found;
+
+    ghost remaining = { λ f. at_most (length f.s.now - f.at) };
+
+    fn next(&mut self) -> Option<Found> {
+        let f = read_field(self.s, self.at)?;
+        self.at = f.next;
+        Some(f)
+    }
+}
+
+fn fields_of(s: &[u8]) -> Walk<'_> {
+    Walk { s, at: 0 }
 }
 
 // The bytes of the first field of number n.
 pub fn inside(s: &[u8], n: u64) -> &[u8] {
-    let mut at = 0;
-    while at < s.len() {
-        let f = read_field(s, at);
-        if number_of(f) == n {
-            return bytes_of(s, f);
-        }
-        let next = next_of(f);
-        if next <= at {
-            return &s[0..0];
-        }
-        at = next;
+    match fields_of(s).find(|f| f.number == n) {
+        Some(f) => bytes_of(s, f),
+        None => &[],
     }
-    &s[0..0]
 }
 
 // The bits of a float, the highest first.
 fn bits(rt: &impl Print, b: &[u8]) -> io::Result<()> {
-    let mut i = b.len();
-    while 0 < i {
-        i -= 1;
-        let byte = b[i];
+    for byte in b.iter().rev() {
         print!(rt; "{byte:02x}")?;
     }
     Ok(())
@@ -50,38 +58,18 @@ fn bits(rt: &impl Print, b: &[u8]) -> io::Result<()> {
 // A number in decimal, bytes as text, a float as its bits.
 fn field(rt: &impl Print, s: &[u8], f: Found) -> io::Result<()> {
     blanks(rt, 1)?;
-    match f {
-        Found::Varint {
-            number: _,
-            value,
-            next: _,
-        } => print!(rt; "{value}"),
-        Found::Len {
-            number: _,
-            start,
-            len,
-            next: _,
-        } => text(rt, part(s, start, len)),
-        Found::I32 {
-            number: _,
-            start,
-            next: _,
-        } => bits(rt, part(s, start, 4)),
-        _ => write(rt, b"?"),
+    match f.held {
+        Held::Varint(value) => print!(rt; "{value}"),
+        Held::Len { start, len } => text(rt, part(s, start, len)),
+        Held::I32 { start } => bits(rt, part(s, start, 4)),
+        Held::I64 { .. } => write(rt, b"?"),
     }
 }
 
 // The fields of a message that holds no message.
 fn fields(rt: &impl Print, s: &[u8]) -> io::Result<()> {
-    let mut at = 0;
-    while at < s.len() {
-        let f = read_field(s, at);
-        let next = next_of(f);
-        if next <= at {
-            return Ok(());
-        }
+    for f in fields_of(s) {
         field(rt, s, f)?;
-        at = next;
     }
     Ok(())
 }
@@ -105,29 +93,16 @@ fn log_line(rt: &impl Print, number: u64, s: &[u8]) -> io::Result<()> {
 }
 
 fn log_part(rt: &impl Print, log: &[u8], f: Found) -> io::Result<()> {
-    if let Found::Len {
-        number,
-        start,
-        len,
-        next: _,
-    } = f
-    {
-        log_line(rt, number, part(log, start, len))?;
+    if let Held::Len { start, len } = f.held {
+        log_line(rt, f.number, part(log, start, len))?;
     }
     Ok(())
 }
 
 // A line for each part of a log.
 fn log(rt: &impl Print, s: &[u8]) -> io::Result<()> {
-    let mut at = 0;
-    while at < s.len() {
-        let f = read_field(s, at);
-        let next = next_of(f);
-        if next <= at {
-            return Ok(());
-        }
+    for f in fields_of(s) {
         log_part(rt, s, f)?;
-        at = next;
     }
     Ok(())
 }

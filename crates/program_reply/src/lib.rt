@@ -10,9 +10,8 @@ ghost use Rattle.std.specs.Prelude.{◌<◌};
 
 use crate::columns::{blanks, column, label, newline};
 use crate::contents::{contents, inside};
-use crate::status::{answer_text, place_of_status};
+use crate::status::{answer_text, status_name};
 use crate::text::{sha1, under};
-use base_integers::as_u64::wide;
 use program_words::{part, write, write_hex};
 use std::io;
 
@@ -34,7 +33,7 @@ pub fn title(rt: &impl Print, said: &[u8]) -> io::Result<()> {
 pub fn row(rt: &impl Print, number: u64, asked: &[u8]) -> io::Result<()> {
     column(rt, number)?;
     blanks(rt, 2)?;
-    label(rt, asked)
+    label(rt, asked, 64)
 }
 
 // The length of a reply's message.
@@ -44,16 +43,13 @@ fn message_length(reply: &[u8]) -> usize
     if reply.len() < 9 {
         return 0;
     }
-    (wide(reply[3]) * 256 + wide(reply[4])) as usize
+    usize::from(u16::from_be_bytes([reply[3], reply[4]]))
 }
 
 // The status code: the status is a reply's last field, and its code the last byte of that.
 fn code_of(reply: &[u8]) -> u8 {
     let last = 8 + message_length(reply);
-    if last < reply.len() {
-        return reply[last];
-    }
-    0
+    reply.get(last).copied().unwrap_or(0)
 }
 
 // What a reply has in its body, and its value part.
@@ -92,14 +88,14 @@ fn counts(rt: &impl Print, taken: usize, reply: &[u8], entries: usize) -> io::Re
 }
 
 // How a row ends whose call was refused.
-pub fn refused(rt: &impl Print, number: u64, entries: usize) -> io::Result<()> {
-    answer_text(rt, number)?;
+pub fn refused(rt: &impl Print, said: &[u8], entries: usize) -> io::Result<()> {
+    answer_text(rt, said)?;
     counts(rt, 0, b"", entries)
 }
 
 // How a row ends whose call was answered, and the lines under it.
 pub fn answered(rt: &impl Print, taken: usize, reply: &[u8], entries: usize) -> io::Result<()> {
-    answer_text(rt, place_of_status(code_of(reply)))?;
+    answer_text(rt, status_name(code_of(reply)))?;
     counts(rt, taken, reply, entries)?;
     lines(rt, reply)
 }

@@ -1,48 +1,26 @@
-// The status of a reply, or the refusal of a call, by its name.
-use program_words::{part, write};
+// The status of a reply by its name.
+use crate::columns::label;
 use std::io;
 
-// What the box answered, in 28 bytes: 0 is none that is known, 1 to 7 are the refusals, 8 and above the statuses.
-pub fn answer_text(rt: &impl Print, place: u64) -> io::Result<()> {
-    let texts = b"?                           \
-          refusal 1 OUT_SHORT         \
-          refusal 2 STORE_BAD         \
-          refusal 3 DEVICE_BAD        \
-          refusal 4 CLOSED            \
-          refusal 5 MORE              \
-          refusal 6 KEY_BAD           \
-          refusal 7 READINGS_BAD      \
-          SUCCESS (1)                 \
-          HMAC_FAILURE (2)            \
-          NOT_AUTHORIZED (3)          \
-          VERSION_FAILURE (4)         \
-          HEADER_REQUIRED (6)         \
-          NOT_FOUND (7)               \
-          VERSION_MISMATCH (8)        \
-          NO_SPACE (14)               \
-          NO_SUCH_HMAC_ALGORITHM (15) \
-          INVALID_REQUEST (16)        \
-          CONNECTION_TERMINATED (20)  ";
-    if place < 19 {
-        write(rt, part(texts, 28 * place as usize, 28))?;
-    }
-    Ok(())
+// What the box answered, in 28 places.
+pub fn answer_text(rt: &impl Print, said: &[u8]) -> io::Result<()> {
+    label(rt, said, 28)
 }
 
-// Where the text of a status stands.
-pub fn place_of_status(code: u8) -> u64 {
+// The name of a status code.
+pub fn status_name(code: u8) -> &'static [u8] {
     match code {
-        1 => 8,
-        2 => 9,
-        3 => 10,
-        4 => 11,
-        6 => 12,
-        7 => 13,
-        8 => 14,
-        14 => 15,
-        15 => 16,
-        16 => 17,
-        20 => 18,
-        _ => 0,
+        1 => b"SUCCESS (1)",
+        2 => b"HMAC_FAILURE (2)",
+        3 => b"NOT_AUTHORIZED (3)",
+        4 => b"VERSION_FAILURE (4)",
+        6 => b"HEADER_REQUIRED (6)",
+        7 => b"NOT_FOUND (7)",
+        8 => b"VERSION_MISMATCH (8)",
+        14 => b"NO_SPACE (14)",
+        15 => b"NO_SUCH_HMAC_ALGORITHM (15)",
+        16 => b"INVALID_REQUEST (16)",
+        20 => b"CONNECTION_TERMINATED (20)",
+        _ => b"?",
     }
 }

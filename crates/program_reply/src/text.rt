@@ -1,33 +1,28 @@
 // Bytes as text, or as their SHA-1.
 use crate::columns::{blanks, newline};
 use program_words::{part, write, write_hex};
-use signature_sha1::Digest;
 use std::io;
 
 fn glyph(rt: &impl Print, c: u8) -> io::Result<()> {
-    if c < 32 || 126 < c {
-        write(rt, b"\\")?;
-        return print!(rt; "{c:02x}");
+    if (32..=126).contains(&c) {
+        write(rt, &[c])
+    } else {
+        print!(rt; "\\{c:02x}")
     }
-    let one = [c];
-    write(rt, &one)
 }
 
 // Bytes as text: of one that is no printable character, the hex.
 pub fn text(rt: &impl Print, b: &[u8]) -> io::Result<()> {
-    let mut i = 0;
-    while i < b.len() {
-        glyph(rt, b[i])?;
-        i += 1;
+    for c in b {
+        glyph(rt, *c)?;
     }
     Ok(())
 }
 
 // The SHA-1 in hex.
 pub fn sha1(rt: &impl Print, b: &[u8]) -> io::Result<()> {
-    if let Digest::Made(s) = signature_sha1::sha1(b) {
-        let d = signature_sha1::bytes(s);
-        write_hex(rt, &d)?;
+    if let Some(s) = signature_sha1::sha1(b) {
+        write_hex(rt, &signature_sha1::bytes(s))?;
     }
     Ok(())
 }

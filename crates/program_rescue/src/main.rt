@@ -9,20 +9,18 @@
 #![tactic(auto)]
 
 use program_reply::text::sha1;
-use program_words::{
-    first, number, part, place_of, read_full, rest, unhex, word, write, write_hex,
-};
+use program_words::{first, number, part, read_full, rest, unhex, word, write, write_hex};
 use std::io;
-use store_rescue::rule::Rescued;
+use store_rescue::rule::RescueError;
 
 // Room for 129 blocks: one more than a store may have.
 type Room = [u8; 66048];
 
-fn number_of(r: Rescued) -> u64 {
+fn number_of(r: Result<(), RescueError>) -> u64 {
     match r {
-        Rescued::Done => 0,
-        Rescued::StoreBad => 2,
-        Rescued::ReportBad => 8,
+        Ok(()) => 0,
+        Err(RescueError::StoreBad) => 2,
+        Err(RescueError::ReportBad) => 8,
     }
 }
 
@@ -44,10 +42,8 @@ fn rescued(rt: &impl Print, label: &[u8], store: &mut [u8], report: &mut [u8]) -
 fn rescue(rt: &impl Print, said: &[u8], room: &mut [u8], length: usize) -> io::Result<()> {
     let mut reports = [255u8; 256];
     let n = number(said) as usize;
-    if length <= room.len() {
-        if n <= 256 {
-            rescued(rt, rest(said), &mut room[0..length], &mut reports[0..n])?;
-        }
+    if length <= room.len() && n <= 256 {
+        rescued(rt, rest(said), &mut room[0..length], &mut reports[0..n])?;
     }
     Ok(())
 }
@@ -84,11 +80,8 @@ fn event(
 
 fn events(rt: &impl Print, s: &[u8], room: &mut Room, kept: &mut Room) -> io::Result<()> {
     let mut length = 0;
-    let mut at = 0;
-    while at < s.len() {
-        let end = place_of(s, b'\n', at);
-        length = event(rt, &s[at..end], room, kept, length)?;
-        at = end + 1;
+    for line in s.split(|b| *b == b'\n') {
+        length = event(rt, line, room, kept, length)?;
     }
     Ok(())
 }

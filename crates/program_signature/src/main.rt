@@ -1,42 +1,31 @@
 // SHA-1, HMAC and verification of published and outside vectors, a line for each.
 #![tactic(auto)]
 
-use signature_hmac::Mac;
-use signature_sha1::Digest;
+use signature_hmac::MacError;
 use signature_sha1_compression::State;
 use std::io;
 
-fn digit(n: u8) -> u8 {
-    let k = n % 16;
-    if k < 10 { 48 + k } else { 87 + k }
-}
-
 fn show(rt: &impl Print, s: State) -> io::Result<()> {
-    let b = signature_sha1::bytes(s);
-    let mut line = [10u8; 41];
-    let mut i = 0;
-    while i < 20 {
-        line[2 * i] = digit(b[i] / 16);
-        line[2 * i + 1] = digit(b[i] % 16);
-        i += 1;
+    for byte in &signature_sha1::bytes(s) {
+        print!(rt; "{byte:02x}")?;
     }
-    rt.write_all(&line)
+    rt.write_all(b"\n")
 }
 
 fn sha1(rt: &impl Print, name: &[u8], text: &[u8]) -> io::Result<()> {
     rt.write_all(name)?;
     match signature_sha1::sha1(text) {
-        Digest::Made(s) => show(rt, s),
-        Digest::TooLong => rt.write_all(b"text too long\n"),
+        Some(s) => show(rt, s),
+        None => rt.write_all(b"text too long\n"),
     }
 }
 
 fn hmac(rt: &impl Print, name: &[u8], key: &[u8], text: &[u8]) -> io::Result<()> {
     rt.write_all(name)?;
     match signature_hmac::hmac(key, text) {
-        Mac::Made(s) => show(rt, s),
-        Mac::KeyTooLong => rt.write_all(b"key too long\n"),
-        Mac::TextTooLong => rt.write_all(b"text too long\n"),
+        Ok(s) => show(rt, s),
+        Err(MacError::KeyTooLong) => rt.write_all(b"key too long\n"),
+        Err(MacError::TextTooLong) => rt.write_all(b"text too long\n"),
     }
 }
 
@@ -122,10 +111,7 @@ fn many() -> [u8; 1048577] {
 }
 
 fn front(s: &[u8], n: usize) -> &[u8] {
-    if s.len() < n {
-        return s;
-    }
-    &s[0..n]
+    s.get(..n).unwrap_or(s)
 }
 
 fn long_texts(rt: &impl Print) -> io::Result<()> {

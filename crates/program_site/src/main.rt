@@ -18,12 +18,12 @@
 
 use access_record::Record;
 use access_record::offsets::RECORD_BYTES;
-use device::Response;
+use device::{Answered, Refusal};
 use program_host::slots::{Slots, connection_at, keep};
 use program_host::{Host, Readings, Store, row};
 use program_reply::{answered, refused};
-use program_words::{first, number, part, place_of, read_full, rest, unhex, word};
-use protocol_connection::Connection;
+use program_words::{first, number, part, read_full, rest, unhex, word};
+use protocol_connection::{Connection, connect};
 use std::io;
 
 // How many entries the lent store has.
@@ -31,34 +31,39 @@ fn entries(store: &[u8], host: Host) -> usize {
     store_layout::count(part(store, 0, host.store))
 }
 
+// What is said of a refusal.
+fn refusal_name(refusal: Refusal) -> &'static [u8] {
+    match refusal {
+        Refusal::OutShort => b"refusal 1 OUT_SHORT",
+        Refusal::StoreBad => b"refusal 2 STORE_BAD",
+        Refusal::DeviceBad => b"refusal 3 DEVICE_BAD",
+        Refusal::Closed => b"refusal 4 CLOSED",
+        Refusal::More => b"refusal 5 MORE",
+        Refusal::ReadingsBad => b"refusal 7 READINGS_BAD",
+    }
+}
+
 // Shows a response, and gives the connection after it.
 fn show(
     rt: &impl Print,
-    a: Response,
+    a: Result<Answered, Refusal>,
     c: Connection,
     out: &[u8],
     entries: usize,
 ) -> io::Result<Connection> {
     match a {
-        Response::OutShort => refused(rt, 1, entries)?,
-        Response::StoreBad => refused(rt, 2, entries)?,
-        Response::DeviceBad => refused(rt, 3, entries)?,
-        Response::Closed => refused(rt, 4, entries)?,
-        Response::More => refused(rt, 5, entries)?,
-        Response::ReadingsBad => refused(rt, 7, entries)?,
-        Response::Answered {
-            written,
-            taken,
-            connection,
-        } => {
-            answered(rt, taken, part(out, 0, written), entries)?;
-            return Ok(connection);
+        Ok(a) => {
+            answered(rt, a.taken, part(out, 0, a.written), entries)?;
+            Ok(a.connection)
+        }
+        Err(refusal) => {
+            refused(rt, refusal_name(refusal), entries)?;
+            Ok(c)
         }
     }
-    Ok(c)
 }
 
-// The answering call over what is lent; refusal 0 stands for more than there is to lend.
+// The answering call over what is lent; a question mark stands for more than there is to lend.
 fn ask(
     rt: &impl Print,
     store: &mut [u8],
@@ -71,20 +76,18 @@ fn ask(
 ) -> io::Result<Connection> {
     let n = host.store;
     let room = host.room;
-    if n <= store.len() {
-        if room <= out.len() {
-            let a = device::answer(
-                &mut store[0..n],
-                device,
-                readings,
-                c,
-                input,
-                &mut out[0..room],
-            );
-            return show(rt, a, c, out, entries(store, host));
-        }
+    if n <= store.len() && room <= out.len() {
+        let a = device::answer(
+            &mut store[0..n],
+            device,
+            readings,
+            c,
+            input,
+            &mut out[0..room],
+        );
+        return show(rt, a, c, out, entries(store, host));
     }
-    refused(rt, 0, entries(store, host))?;
+    refused(rt, b"?", entries(store, host))?;
     Ok(c)
 }
 
@@ -159,11 +162,8 @@ fn day(
         room: 4096,
         row: 0,
     };
-    let mut at = 0;
-    while at < s.len() {
-        let end = place_of(s, b'\n', at);
-        host = event(rt, &s[at..end], store, device, readings, slots, host)?;
-        at = end + 1;
+    for line in s.split(|b| *b == b'\n') {
+        host = event(rt, line, store, device, readings, slots, host)?;
     }
     Ok(())
 }
@@ -172,7 +172,7 @@ fn main(rt: HostRuntime) -> io::Result<()> {
     let mut store = [0u8; 65536];
     let mut device = [0u8; RECORD_BYTES];
     let mut readings = [0u8; 134];
-    let mut slots = [0u64; 24];
+    let mut slots = [connect(0, false); 8];
     let mut s = [0u8; 131072];
     let n = read_full(&mut rt.reader(), &mut s)?;
     day(

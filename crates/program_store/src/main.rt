@@ -5,8 +5,8 @@
 ghost use Rattle.std.specs.Prelude.{◌≡◌, length};
 
 use std::io;
-use store_layout::{DeleteAnswer, PutAnswer};
-use store_local_read::Local;
+use store_layout::{EntryPart, PutError};
+use store_local_read::StoreBad;
 
 fn main(rt: HostRuntime) -> io::Result<()> {
     let mut lent = [0u8; 65536];
@@ -26,46 +26,44 @@ fn main(rt: HostRuntime) -> io::Result<()> {
 
 // 128 entries, in the order of 37 times the place; every eighth is shown.
 fn fill(rt: &impl Print, lent: &mut [u8]) -> io::Result<()> {
-    let mut i: usize = 0;
-    while i < 128 {
+    for i in 0..128 {
         let n = i * 37 % 128;
         let r = put(lent, n);
         if i % 8 == 7 {
             show(rt, b"put  ", n, r, lent)?;
         }
-        i += 1;
     }
     Ok(())
 }
 
 // Every fifth entry deleted.
 fn thin(rt: &impl Print, lent: &mut [u8]) -> io::Result<()> {
-    let mut n: usize = 4;
-    while n < 130 {
+    for n in (4..130).step_by(5) {
         show(rt, b"del  ", n, delete(lent, n), lent)?;
-        n += 5;
     }
     Ok(())
 }
 
 // The room used again, by keys of other lengths.
 fn refill(rt: &impl Print, lent: &mut [u8]) -> io::Result<()> {
-    let mut n: usize = 201;
-    while n < 227 {
+    for n in 201..227 {
         show(rt, b"put  ", n, put(lent, n), lent)?;
-        n += 1;
     }
     Ok(())
 }
 
-// Entry n: its key is 107 n % 64 times and then n % 256; version, tag and value rise from n.
-fn put(lent: &mut [u8], n: usize) -> u64 {
+// The key of entry n, with bytes behind it: 107 n % 64 times, and then n % 256.
+fn key_of(n: usize) -> [u8; 64] {
     let mut key = [107u8; 64];
+    key[n % 64] = (n % 256) as u8;
+    key
+}
+
+// Entry n: its version, tag and value rise from n.
+fn put(lent: &mut [u8], n: usize) -> u64 {
     let mut rising = [0u8; 384];
-    let k = n % 64;
-    key[k] = (n % 256) as u8;
     rise(&mut rising, n);
-    put_parts(lent, &key, &rising, n)
+    put_parts(lent, &key_of(n), &rising, n)
 }
 
 fn put_parts(lent: &mut [u8], key: &[u8], rising: &[u8], n: usize) -> u64
@@ -87,17 +85,14 @@ fn put_parts(lent: &mut [u8], key: &[u8], rising: &[u8], n: usize) -> u64
         &rising[0..w],
         g,
     ) {
-        PutAnswer::Stored => 0,
-        PutAnswer::Full => 1,
-        PutAnswer::Unfit => 2,
+        Ok(()) => 0,
+        Err(PutError::Full) => 1,
+        Err(PutError::Unfit) => 2,
     }
 }
 
 fn delete(lent: &mut [u8], n: usize) -> u64 {
-    let mut key = [107u8; 64];
-    let k = n % 64;
-    key[k] = (n % 256) as u8;
-    delete_key(lent, &key, n)
+    delete_key(lent, &key_of(n), n)
 }
 
 fn delete_key(lent: &mut [u8], key: &[u8], n: usize) -> u64
@@ -107,18 +102,16 @@ fn delete_key(lent: &mut [u8], key: &[u8], n: usize) -> u64
         return 9;
     }
     let k = n % 64 + 1;
-    match store_write::delete::delete(lent, &key[0..k]) {
-        DeleteAnswer::Deleted => 0,
-        DeleteAnswer::Missing => 1,
+    if store_write::delete::delete(lent, &key[0..k]) {
+        0
+    } else {
+        1
     }
 }
 
 // What a local read of entry n's key finds, and the value's Adler-32.
 fn read(rt: &impl Print, lent: &[u8], n: usize) -> io::Result<()> {
-    let mut key = [107u8; 64];
-    let k = n % 64;
-    key[k] = (n % 256) as u8;
-    read_key(rt, lent, &key, n)
+    read_key(rt, lent, &key_of(n), n)
 }
 
 fn read_key(rt: &impl Print, lent: &[u8], key: &[u8], n: usize) -> io::Result<()>
@@ -135,19 +128,17 @@ fn read_key(rt: &impl Print, lent: &[u8], key: &[u8], n: usize) -> io::Result<()
     )
 }
 
-fn number(r: Local) -> u64 {
+fn number(r: Result<Option<EntryPart>, StoreBad>) -> u64 {
     match r {
-        Local::Value { start: _, len: _ } => 0,
-        Local::NotFound => 1,
-        Local::StoreBad => 2,
+        Ok(Some(_)) => 0,
+        Ok(None) => 1,
+        Err(StoreBad) => 2,
     }
 }
 
 fn rise(out: &mut [u8], n: usize) {
-    let mut j: usize = 0;
-    while j < out.len() {
-        out[j] = ((n % 256 + j) % 256) as u8;
-        j += 1;
+    for (j, x) in out.iter_mut().enumerate() {
+        *x = ((n % 256 + j) % 256) as u8;
     }
 }
 
@@ -160,11 +151,9 @@ fn show(rt: &impl Print, name: &[u8], n: usize, answer: u64, bytes: &[u8]) -> io
 fn adler(bytes: &[u8]) -> u64 {
     let mut a: u64 = 1;
     let mut b: u64 = 0;
-    let mut i = 0;
-    while i < bytes.len() {
-        a = (a + bytes[i] as u64) % 65521;
+    for x in bytes {
+        a = (a + u64::from(*x)) % 65521;
         b = (b + a) % 65521;
-        i += 1;
     }
     b * 65536 + a
 }

@@ -1,9 +1,9 @@
 // Lines of text that programs read and write: words, numbers in decimal, bytes in hex.
 #![tactic(auto)]
 
-ghost use Rattle.std.specs.Prelude.{◌<◌, ◌≤◌, ◌+◌, length, IfOk};
+ghost use Rattle.std.specs.Prelude.{◌≡◌, ◌<◌, ◌≤◌, ◌+◌, ◌/◌, min, length, take, IfOk};
+ghost use Rattle.std.specs.Io.KnownBytes.{Consumes, IsAtEnd};
 
-use base_integers::as_u64::wide;
 use std::io;
 use std::io::Read;
 
@@ -12,72 +12,55 @@ pub fn place_of(s: &[u8], b: u8, from: usize) -> usize
     requires { from ≤ length s.now }
     ensures { (from ≤ result) × (result ≤ length s.now) }
 {
-    let mut i = from;
-    while i < s.len() {
-        if s[i] == b {
-            return i;
-        }
-        i += 1;
+    match s[from..].iter().position(|x| *x == b) {
+        Some(n) => from + n,
+        None => s.len(),
     }
-    i
 }
 
 // A part of s; nothing of it where there is no such part.
 pub fn part(s: &[u8], start: usize, len: usize) -> &[u8] {
-    if start <= s.len() {
-        if len <= s.len() - start {
-            let end = start + len;
-            return &s[start..end];
-        }
+    if start <= s.len() && len <= s.len() - start {
+        &s[start..start + len]
+    } else {
+        &[]
     }
-    &s[0..0]
 }
 
 // The first letter of s.
 pub fn first(s: &[u8]) -> u8 {
-    if s.len() == 0 {
-        return 0;
-    }
-    s[0]
+    s.first().copied().unwrap_or(0)
 }
 
 // The first word of s.
 pub fn word(s: &[u8]) -> &[u8] {
-    let end = place_of(s, b' ', 0);
-    &s[0..end]
+    &s[..place_of(s, b' ', 0)]
 }
 
 // What follows the first word.
 pub fn rest(s: &[u8]) -> &[u8] {
     let end = place_of(s, b' ', 0);
-    if end < s.len() {
-        let next = end + 1;
-        return &s[next..];
-    }
-    &s[0..0]
+    if end < s.len() { &s[end + 1..] } else { &[] }
 }
 
 fn digit(c: u8) -> u8
     ensures { result < 16 }
 {
     match c {
-        48..=57 => c - 48,
-        97..=102 => c - 87,
+        b'0'..=b'9' => c - b'0',
+        b'a'..=b'f' => c - b'a' + 10,
         _ => 0,
     }
 }
 
 // The first word of s, in decimal; the digits of one above 10^17 are left out.
 pub fn number(s: &[u8]) -> u64 {
-    let end = place_of(s, b' ', 0);
     let mut v: u64 = 0;
-    let mut i = 0;
-    while i < end {
-        if 100000000000000000 < v {
+    for c in word(s) {
+        if 100_000_000_000_000_000 < v {
             return v;
         }
-        v = v * 10 + wide(digit(s[i]));
-        i += 1;
+        v = v * 10 + u64::from(digit(*c));
     }
     v
 }
@@ -91,23 +74,22 @@ fn byte_at(s: &[u8], at: usize) -> u8
 
 // The bytes of a word in hex, as many as out has room for, and how many there are.
 pub fn unhex(s: &[u8], out: &mut [u8]) -> usize
-    ensures { result ≤ length out.new }
+    ensures { result ≡ min (length s.now / 2) (length out.new) }
 {
-    let mut i = 0;
-    while i < out.len() {
-        if s.len() / 2 <= i {
-            return i;
-        }
+    let n = (s.len() / 2).min(out.len());
+    for i in 0..n {
         out[i] = byte_at(s, 2 * i);
-        i += 1;
     }
-    i
+    n
 }
 
 // Reads until out is full or the input ends, and gives how many bytes were read.
-pub fn read_full(input: &mut impl Read, out: &mut [u8]) -> io::Result<usize>
-    ensures { IfOk result (λ n. n ≤ length out.new) }
+pub fn read_full<R: Read>(input: &mut R, out: &mut [u8]) -> io::Result<usize>
+    ensures room { IfOk result (λ n. n ≤ length out.new) }
+    ensures read { IfOk result (λ n. Consumes (R.remaining input.old) (R.remaining input.new) (take n out.new)) }
+    ensures full { IfOk result (λ n. n < length out.new → IsAtEnd (R.remaining input.new)) }
 {
+    // A while: how far a read gets, only the read says.
     let mut done = 0;
     while done < out.len() {
         let n = input.read(&mut out[done..])?;
@@ -125,11 +107,8 @@ pub fn write(rt: &impl Print, b: &[u8]) -> io::Result<()> {
 
 // Writes bytes in hex.
 pub fn write_hex(rt: &impl Print, b: &[u8]) -> io::Result<()> {
-    let mut i = 0;
-    while i < b.len() {
-        let byte = b[i];
+    for byte in b {
         print!(rt; "{byte:02x}")?;
-        i += 1;
     }
     Ok(())
 }

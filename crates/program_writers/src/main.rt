@@ -3,7 +3,6 @@
 
 ghost use Rattle.std.specs.Prelude.{◌≡◌, ◌+◌, ◌≤◌, length};
 
-use fields_write_bytes::Maybe;
 use fields_write_bytes_field::push_raw;
 use fields_write_field::{push_head, push_int};
 use fields_write_optional::{push_maybe, push_nonempty, push_nonzero};
@@ -43,7 +42,7 @@ fn noop_response(rt: &impl Print) -> io::Result<()> {
     let a = push_int(&mut out, 128, 1, 1);
     let b = push_head(&mut out, a, 3, 128 - a);
     let c = push_int(&mut out, b, 7, 29);
-    let d = push_maybe(&mut out, c, 6, Maybe::Number(2));
+    let d = push_maybe(&mut out, c, 6, Some(2));
     let e = push_int(&mut out, d, 3, 1);
     let f = push_head(&mut out, e, 1, b - e);
     show(rt, &out[f..])
@@ -98,13 +97,13 @@ fn main(rt: HostRuntime) -> io::Result<()> {
     number(&rt, 150)?;
     text(&rt, b"testing")?;
     embedded(&rt, 150)?;
-    number(&rt, 18446744073709551614)?;
-    number(&rt, 18446744073709551615)?;
+    number(&rt, u64::MAX - 1)?;
+    number(&rt, u64::MAX)?;
     number(&rt, 0)?;
     number(&rt, 127)?;
     number(&rt, 128)?;
-    number(&rt, 9223372036854775807)?;
-    number(&rt, 9223372036854775808)?;
+    number(&rt, (1 << 63) - 1)?;
+    number(&rt, 1 << 63)?;
     noop_response(&rt)?;
     get_response(&rt, b"k", b"v1", b"\x01\x02\x03\x04", 4)?;
     get_response(&rt, b"k", b"", b"", 0)?;

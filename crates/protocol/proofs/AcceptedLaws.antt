@@ -1,5 +1,5 @@
 -- Step 6: "From here the sequence counts as accepted, whatever follows." A refusal at steps 4 to 6 changes nothing. The readings stay in any case.
-use Rattle.std.specs.Prelude.{ℕ, ◌≡◌, Bool, cond, ◌&&◌, List, [], ltb, ℤ, pos, negsuc}
+use Rattle.std.specs.Prelude.{ℕ, ◌≡◌, Bool, cond, ◌&&◌, List, [], ltb, ℤ, pos, negsuc, None, Some}
 use Rattle.std.proofs.Common.{arith, ◌∙◌}
 use Rattle.std.proofs.Math.Path.{refl, ap}
 use Rattle.std.proofs.Math.Bool.{true, false}
@@ -12,19 +12,18 @@ use Rattle.base_integers.specs.Signed.{signed_of}
 use Rattle.access_record.specs.Table as access
 use Rattle.access_permission.specs.Permissions.{READ}
 use Rattle.store_block.specs.Entry.{Entry}
-use Rattle.store_layout.specs.declared.PutAnswer.{PutAnswer}
-use Rattle.store_layout.specs.declared.PutAnswer.TheVariants.{Stored, Full, Unfit}
+use Rattle.store_layout.specs.Entries.{PutAnswer}
+use Rattle.std.specs.Prelude.{Ok, Err}
+use Rattle.store_layout.specs.declared.PutError.TheVariants.{Full, Unfit}
 use Rattle.store_layout.specs.Entries.{put_answer, next_of, previous_of}
 use Rattle.protocol.specs.StatusCode.{VERSION_FAILURE, INVALID_REQUEST}
 use Rattle.protocol.specs.declared.Operation.{Operation}
 use Rattle.protocol.specs.declared.Operation.TheVariants.{Noop, Get, GetVersion, GetNext, GetPrevious, GetKeyRange, Put, Delete, FlushAllData, Setup, GetLog, Security}
-use Rattle.protocol.specs.declared.Asked.{Asked}
-use Rattle.protocol.specs.declared.Asked.TheVariants.{Request, NotBuilt}
 use Rattle.protocol.specs.State.{State, table, with_sequence, accepted}
 use Rattle.base_definitions.specs.Options.{or_else}
 use Rattle.protocol.specs.Command.{Header, KeyValue, Body, Command}
-use Rattle.protocol.specs.Operation.{asked_by}
-use Rattle.protocol.specs.Judge.{Result, fails, both_there, step4, step5, above, above_last, step6, step7, fault, step8, key_value_in, permitted, step9}
+use Rattle.protocol.specs.Operation.{Asked, asked_by}
+use Rattle.protocol.specs.Judge.{Result, fails, both_there, step4, step5, above, above_last, step6, fault, key_value_in, permitted}
 use Rattle.protocol.specs.Judge.{entry_of, visible_in, shown, version_shown, version_right, new_entry, put_by, put, delete_by, set_up, step10, judge}
 use Rattle.protocol.specs.Passes.{Passes}
 use Rattle.protocol.specs.Onwards.{onwards}
@@ -51,9 +50,9 @@ keeps-put s k v =
     keeps-choose s (version_right k (entry_of s k.key)) (by_answer (put_answer s.store (new_entry k v))) (record { same = refl; read = refl })
   where
     by_answer : (r : PutAnswer) → Keeps s (put_by s (new_entry k v) r)
-    by_answer Stored = record { same = refl; read = refl }
-    by_answer Full = record { same = refl; read = refl }
-    by_answer Unfit = record { same = refl; read = refl }
+    by_answer (Ok tt) = record { same = refl; read = refl }
+    by_answer (Err Full) = record { same = refl; read = refl }
+    by_answer (Err Unfit) = record { same = refl; read = refl }
 
 keeps-delete : (s : State) (k : KeyValue) (o : Option Entry) → Keeps s (delete_by s k o)
 keeps-delete s k none = keeps-choose s k.force (record { same = refl; read = refl }) (record { same = refl; read = refl })
@@ -85,12 +84,12 @@ step6-passed s q next e = rw (eq-eqb s.connection.number s.connection.number ref
 
 module _ (s : State) (a : access.Acl) (c : Command) (v : List ℕ) where
   keeps-onwards : (q : ℕ) (o : Asked) → Keeps (accepted s q) (onwards s a c v q o)
-  keeps-onwards q (Request x) =
+  keeps-onwards q (Some x) =
       keeps-choose (accepted s q) (eqb (fault x.operation c.body v) 0)
       (keeps-choose (accepted s q) (permitted a s.connection.protected x.permission c.body)
       (keeps-step10 (accepted s q) a x.operation c.body v) (record { same = refl; read = refl }))
       (record { same = refl; read = refl })
-  keeps-onwards q NotBuilt = record { same = refl; read = refl }
+  keeps-onwards q None = record { same = refl; read = refl }
 
   -- steps 4 to 6
   abbrev before : Option Header → Result

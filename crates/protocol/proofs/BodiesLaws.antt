@@ -1,5 +1,5 @@
 -- Document 01, "Replies": "Body only on success", by operation, shown of what steps 4 to 10 give.
-use Rattle.std.specs.Prelude.{ℕ, ◌≡◌, refl, Bool, true, false, cond, ◌&&◌, List, [], eqb}
+use Rattle.std.specs.Prelude.{ℕ, ◌≡◌, refl, Bool, true, false, cond, ◌&&◌, List, [], eqb, None, Some}
 use Rattle.std.proofs.Common.{arith}
 use Rattle.std.proofs.Math.Option.{Option, none, some}
 use Rattle.fields_schema.specs.Tree.{among}
@@ -7,19 +7,18 @@ use Rattle.access_record.specs.Table as access
 use Rattle.access_record.specs.Record.{table_bytes, with_cluster_version}
 use Rattle.access_permission.specs.Permissions.{READ, RANGE}
 use Rattle.store_block.specs.Entry.{Entry}
-use Rattle.store_layout.specs.declared.PutAnswer.{PutAnswer}
-use Rattle.store_layout.specs.declared.PutAnswer.TheVariants.{Stored, Full, Unfit}
+use Rattle.store_layout.specs.Entries.{PutAnswer}
+use Rattle.std.specs.Prelude.{Ok, Err}
+use Rattle.store_layout.specs.declared.PutError.TheVariants.{Full, Unfit}
 use Rattle.store_layout.specs.Entries.{next_of, previous_of, put_answer, put_store, delete_store}
 use Rattle.protocol.specs.StatusCode.{NO_SUCH_HMAC_ALGORITHM, INVALID_REQUEST}
 use Rattle.protocol.specs.declared.Operation.{Operation}
 use Rattle.protocol.specs.declared.Operation.TheVariants.{Noop, Get, GetVersion, GetNext, GetPrevious, GetKeyRange, Put, Delete, FlushAllData, Setup, GetLog, Security}
 use Rattle.protocol.specs.declared.Permission.{Permission}
-use Rattle.protocol.specs.declared.Asked.{Asked}
-use Rattle.protocol.specs.declared.Asked.TheVariants.{Request, NotBuilt}
 use Rattle.protocol.specs.State.{State, table, with_device, with_store, accepted}
 use Rattle.base_definitions.specs.Options.{or_else}
 use Rattle.protocol.specs.Command.{Header, KeyValue, Body, Command}
-use Rattle.protocol.specs.Operation.{asked_by}
+use Rattle.protocol.specs.Operation.{Asked, asked_by}
 use Rattle.protocol.specs.Judge.{ReplyBody, Result, bare, key_value, range, log, fails, succeeds, both_there, step4, step5, above_last, step6, step7, step8, step9, key_value_in, range_in, permitted}
 use Rattle.protocol.specs.Judge.{entry_of, visible_in, shown, version_shown, version_right, new_entry, put_by, put, delete_by, keys_of, set_up, log_of, logged, wanted, step10, judge}
 use Rattle.protocol.specs.Box.{type_of}
@@ -47,7 +46,7 @@ by-fault m a s next invalid h = failed m a s INVALID_REQUEST (λ e. omega arith)
 -- an operation, whatever permission and reply type are chosen with it
 module _ (permission : Permission) (type : ℕ) where
   abbrev asking : Operation → Asked
-  asking o = Request (record { operation = o; permission = permission; reply_type = type })
+  asking o = Some (record { operation = o; permission = permission; reply_type = type })
 
   succeeded : (m : Bool) (o : Operation) (s : State) (b : ReplyBody) (v : List ℕ) → Shape m o b v → Bodied m (asking o) (succeeds s b v)
   succeeded m o s b v h = record { success = λ e. h; failure = λ n. absurd (n refl) }
@@ -67,9 +66,9 @@ module _ (permission : Permission) (type : ℕ) where
       (by_answer (put_answer s.store (new_entry k v))) (failed m (asking Put) s _ (λ e. omega arith))
     where
       by_answer : (r : PutAnswer) → Bodied m (asking Put) (put_by s (new_entry k v) r)
-      by_answer Stored = succeeded m Put (with_store s (put_store s.store (new_entry k v))) _ [] (refl, refl)
-      by_answer Full = failed m (asking Put) s _ (λ e. omega arith)
-      by_answer Unfit = failed m (asking Put) s _ (λ e. omega arith)
+      by_answer (Ok tt) = succeeded m Put (with_store s (put_store s.store (new_entry k v))) _ [] (refl, refl)
+      by_answer (Err Full) = failed m (asking Put) s _ (λ e. omega arith)
+      by_answer (Err Unfit) = failed m (asking Put) s _ (λ e. omega arith)
 
   delete-bodied : (m : Bool) (s : State) (k : KeyValue) (o : Option Entry) → Bodied m (asking Delete) (delete_by s k o)
   delete-bodied m s k none =
@@ -111,12 +110,12 @@ module _ (s : State) (a : access.Acl) (c : Command) (v : List ℕ) where
       (step7 (accepted s q) o (λ x.
       step8 (accepted s q) x.operation c.body v
       (step9 (accepted s q) a x.permission c.body (step10 (accepted s q) a x.operation c.body v))))
-  asked-bodied q (Request x) =
-      by-fault only_metadata (Request x) (accepted s q) _ (fault-code x.operation c.body v)
-      (chosen only_metadata (Request x) (permitted a s.connection.protected x.permission c.body) _ _
+  asked-bodied q (Some x) =
+      by-fault only_metadata (Some x) (accepted s q) _ (fault-code x.operation c.body v)
+      (chosen only_metadata (Some x) (permitted a s.connection.protected x.permission c.body) _ _
       (step10-bodied x.permission x.reply_type (accepted s q) a x.operation c.body v)
-      (failed only_metadata (Request x) (accepted s q) _ (λ e. omega arith)))
-  asked-bodied q NotBuilt = failed only_metadata NotBuilt (accepted s q) _ (λ e. omega arith)
+      (failed only_metadata (Some x) (accepted s q) _ (λ e. omega arith)))
+  asked-bodied q None = failed only_metadata None (accepted s q) _ (λ e. omega arith)
 
   pub judge-bodied : Bodied only_metadata (asked_by (type_of c.header)) (judge s a c v)
   unfolding judge
@@ -141,5 +140,5 @@ module _ (s : State) (a : access.Acl) (c : Command) (v : List ℕ) where
           (step7 (accepted s q) (asked_by h.message_type) (λ x.
           step8 (accepted s q) x.operation c.body v
           (step9 (accepted s q) a x.permission c.body (step10 (accepted s q) a x.operation c.body v)))))))
-      go none = failed only_metadata NotBuilt s _ (λ e. omega arith)
+      go none = failed only_metadata None s _ (λ e. omega arith)
       go (some h) = there h h.connection_id h.sequence

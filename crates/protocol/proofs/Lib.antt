@@ -4,6 +4,7 @@ pub mod DigestLaws
 pub mod WordLaws
 pub mod OperationLaws
 pub mod FaultLaws
+pub mod FailureLaws
 pub mod ReplyBackLaws
 pub mod PartsBackLaws
 pub mod ResultLaws

@@ -9,8 +9,9 @@ use Rattle.fields_schema.specs.Tree.{Tree}
 use Rattle.fields_encoding.proofs.BasicLaws.{never}
 use Rattle.access_record.proofs.TableLaws.{both-fst, both-snd, within_low, within-high}
 use Rattle.store_block.specs.Entry.{Fit}
-use Rattle.store_layout.specs.declared.PutAnswer.{PutAnswer}
-use Rattle.store_layout.specs.declared.PutAnswer.TheVariants.{Stored, Full, Unfit}
+use Rattle.store_layout.specs.Entries.{PutAnswer}
+use Rattle.std.specs.Prelude.{Ok, Err}
+use Rattle.store_layout.specs.declared.PutError.TheVariants.{Full, Unfit}
 use Rattle.store_layout.specs.Entries.{has_room, put_answer}
 use Rattle.store_layout.proofs.KeptLaws.{fit-answer}
 use Rattle.protocol.specs.StatusCode.{VERSION_MISMATCH, NO_SPACE}
@@ -31,25 +32,25 @@ module _ (s : State) (k : KeyValue) (v : List ℕ) where
   by-store e = ap (λ (t : Bool). cond t (put_by s (new_entry k v) (put_answer s.store (new_entry k v))) (fails s VERSION_MISMATCH)) e
 
   -- SUCCESS only where the store takes the entry
-  pub success-stored : (put s k v).code ≡ 1 → put_answer s.store (new_entry k v) ≡ Stored
+  pub success-stored : (put s k v).code ≡ 1 → put_answer s.store (new_entry k v) ≡ Ok tt
   success-stored e = go (version_right k (entry_of s k.key)) (put_answer s.store (new_entry k v)) refl e
     where
       go : (t : Bool) (r : PutAnswer) → put_answer s.store (new_entry k v) ≡ r → (cond t (put_by s (new_entry k v) r) (fails s VERSION_MISMATCH)).code ≡ 1
-          → put_answer s.store (new_entry k v) ≡ Stored
-      go true Stored q e = q
-      go true Full q e = absurd (omega arith)
-      go true Unfit q e = absurd (omega arith)
+          → put_answer s.store (new_entry k v) ≡ Ok tt
+      go true (Ok tt) q e = q
+      go true (Err Full) q e = absurd (omega arith)
+      go true (Err Unfit) q e = absurd (omega arith)
       go false r q e = absurd (omega arith)
 
   -- NO_SPACE "only then"
-  pub no-space-full : (put s k v).code ≡ NO_SPACE → put_answer s.store (new_entry k v) ≡ Full
+  pub no-space-full : (put s k v).code ≡ NO_SPACE → put_answer s.store (new_entry k v) ≡ Err Full
   no-space-full e = go (version_right k (entry_of s k.key)) (put_answer s.store (new_entry k v)) refl e
     where
       go : (t : Bool) (r : PutAnswer) → put_answer s.store (new_entry k v) ≡ r → (cond t (put_by s (new_entry k v) r) (fails s VERSION_MISMATCH)).code ≡ NO_SPACE
-          → put_answer s.store (new_entry k v) ≡ Full
-      go true Stored q e = absurd (omega arith)
-      go true Full q e = q
-      go true Unfit q e = absurd (omega arith)
+          → put_answer s.store (new_entry k v) ≡ Err Full
+      go true (Ok tt) q e = absurd (omega arith)
+      go true (Err Full) q e = q
+      go true (Err Unfit) q e = absurd (omega arith)
       go false r q e = absurd (omega arith)
 
 -- ---- what passes step 8 fits
@@ -86,6 +87,6 @@ passed b v e a = there v b.key_value (good (leb (length v) 384 && present change
 
 -- THE ENTRY OF A COMMAND THAT DECODES AND PASSES STEP 8 FITS: the store takes it where there is room, and NO_SPACE is said elsewhere
 pub fits-or-full : (m : List ℕ) {t : Tree} (l v : List ℕ) → decodes m ≡ some t → fault Put (command_of t).body v ≡ 0
-    → put_answer l (new_entry (key_value_in (command_of t).body) v) ≡ cond (has_room l (new_entry (key_value_in (command_of t).body) v)) Stored Full
+    → put_answer l (new_entry (key_value_in (command_of t).body) v) ≡ cond (has_room l (new_entry (key_value_in (command_of t).body) v)) (Ok tt) (Err Full)
 fits-or-full m {t} l v d e =
     fit-answer l (new_entry (key_value_in (command_of t).body) v) (passed (command_of t).body v e (algorithm-most m d))

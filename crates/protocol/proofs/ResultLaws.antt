@@ -1,7 +1,7 @@
 -- What steps 4 to 10 give can be sent: a code that document 01 names, a body and a value part that fit.
 use Prim.Native.Nat.{ℕ, zero, suc, ◌+◌, ◌^◌, ◌≤◌, ◌<◌}
 use native.Mathlib.Omega.{arith}
-use Rattle.std.specs.Prelude.{◌≡◌, Bool, true, false, cond, ◌&&◌, eqb, leb, take, get_or}
+use Rattle.std.specs.Prelude.{◌≡◌, Bool, true, false, cond, ◌&&◌, eqb, leb, take, get_or, None, Some, Result as StdResult, Ok, Err}
 use Rattle.std.proofs.Math.Path.{refl, ap, subst}
 use mathlib.Core.List.{List, [], ◌∷◌, reverse, reverse_aux}
 use Rattle.std.proofs.Math.Option.{Option, none, some}
@@ -14,28 +14,24 @@ use Rattle.access_record.specs.Table as access
 use Rattle.access_permission.specs.Permissions.{READ, RANGE}
 use Rattle.access_permission.specs.Permission.{permits}
 use Rattle.store_block.specs.Order.{cmp}
-use Rattle.store_block.specs.Block.{is_less}
+use Rattle.std.specs.Ordering.{is_lt}
 use Rattle.store_block.specs.Entry.{Entry, no_entry, Fit}
 use Rattle.store_layout.specs.Store.{blocks_in, AllFit, Good, store_good}
 use Rattle.store_layout.proofs.CheckLaws.{store-decides}
-use Rattle.store_layout.specs.declared.PutAnswer.{PutAnswer}
-use Rattle.store_layout.specs.declared.PutAnswer.TheVariants.{Stored, Full, Unfit}
+use Rattle.store_layout.specs.Entries.{PutAnswer}
+use Rattle.store_layout.specs.declared.PutError.TheVariants.{Full, Unfit}
 use Rattle.store_layout.specs.Entries.{put_answer, put_store, delete_store, find_in, next_of, previous_of}
 use Rattle.log_readings.specs.Lent.{Lent, Sample, place_at, places_from, temperatures, utilizations, readings_good, temperature_sample, utilization_sample}
 use Rattle.log_readings.specs.Places.{Placed}
 use Rattle.log_readings.specs.LentLaws.{name-bounds, good-temperatures, good-utilizations, temperatures-placed, utilizations-placed}
-use Rattle.store_layout.specs.declared.KeyPlace.{KeyPlace}
-use Rattle.store_layout.specs.declared.KeyPlace.TheVariants.{At, Gap}
 use Rattle.protocol.specs.declared.Operation.{Operation}
 use Rattle.protocol.specs.declared.Operation.TheVariants.{Noop, Get, GetVersion, GetNext, GetPrevious, GetKeyRange, Put, Delete, FlushAllData, Setup, GetLog, Security}
 use Rattle.protocol.specs.declared.Choice.{Choice}
-use Rattle.protocol.specs.declared.Asked.{Asked}
-use Rattle.protocol.specs.declared.Asked.TheVariants.{Request, NotBuilt}
 use Rattle.protocol.specs.State.{State, table, entries, with_store, accepted}
 use Rattle.base_definitions.specs.Lists.{map_l, only, first, is_empty}
 use Rattle.base_definitions.specs.Options.{or_else}
 use Rattle.protocol.specs.Command.{Header, KeyValue, Range, Body, Command}
-use Rattle.protocol.specs.Operation.{asked_by}
+use Rattle.protocol.specs.Operation.{Asked, asked_by}
 use Rattle.protocol.specs.Judge.{Capacity, ReplyBody, Result, bare, key_value, range, log, fails, succeeds, both_there, step4, above_last, step7, present, range_good, broken, fault, step8}
 use Rattle.protocol.specs.Judge.{no_range, key_value_in, range_in, permitted, entry_at, entry_of, visible, visible_in, shown, version_shown, version_right, new_entry, changed, put_by, put, delete_by, in_range, keys_in, keys_of, set_up, capacity_of, log_with, log_of, logged, step10, judge}
 use Rattle.protocol.specs.FaultCode.{FaultCode, nothing, no_algorithm, invalid}
@@ -66,8 +62,8 @@ step4-sent s none next f = failing s _ (known-code refl)
 step4-sent s (some h) next f = there s h h.connection_id h.sequence next f
 
 step7-sent : (s : State) (a : Asked) (next : Choice → Result) → ((x : Choice) → Sendable (next x)) → Sendable (step7 s a next)
-step7-sent s (Request x) next f = f x
-step7-sent s NotBuilt next f = failing s _ (known-code refl)
+step7-sent s (Some x) next f = f x
+step7-sent s None next f = failing s _ (known-code refl)
 
 -- ---- step 8
 
@@ -115,10 +111,10 @@ first_fits AllFit.none = record {}
 first_fits (AllFit.more h k) = fit_parts h
 
 module _ (s : State) (fit : AllFit (entries s)) where
-  entry-at : (f : KeyPlace) → SomeFits (entry_at s f)
+  entry-at : (f : StdResult ℕ ℕ) → SomeFits (entry_at s f)
   unfolding SomeFits
-  entry-at (At i) = at-fits fit i
-  entry-at (Gap i) = record {}
+  entry-at (Ok i) = at-fits fit i
+  entry-at (Err i) = record {}
 
   visible-fit : (a : access.Acl) (p : ℕ) → AllFit (visible_in s a p)
   unfolding visible
@@ -126,11 +122,11 @@ module _ (s : State) (fit : AllFit (entries s)) where
 
   next_fits : (a : access.Acl) (k : List ℕ) → SomeFits (next_of k (visible_in s a READ))
   unfolding next_of
-  next_fits a k = first_fits (only-fit (λ e. is_less (cmp k e.key)) (visible-fit a READ))
+  next_fits a k = first_fits (only-fit (λ e. is_lt (cmp k e.key)) (visible-fit a READ))
 
   previous-fits : (a : access.Acl) (k : List ℕ) → SomeFits (previous_of k (visible_in s a READ))
   unfolding previous_of
-  previous-fits a k = first_fits (reversed-fit (only-fit (λ e. is_less (cmp e.key k)) (visible-fit a READ)) AllFit.none)
+  previous-fits a k = first_fits (reversed-fit (only-fit (λ e. is_lt (cmp e.key k)) (visible-fit a READ)) AllFit.none)
 
 value-short : (t : Bool) (v : List ℕ) → length v ≤ 384 → length (cond t [] v) ≤ 384
 value-short true v h = omega arith
@@ -156,9 +152,9 @@ put-sent s k v =
     (by_answer (put_answer s.store (new_entry k v))) (failing s _ (known-code refl))
   where
     by_answer : (r : PutAnswer) → Sendable (put_by s (new_entry k v) r)
-    by_answer Stored = changed-sent s (put_store s.store (new_entry k v))
-    by_answer Full = failing s _ (known-code refl)
-    by_answer Unfit = failing s _ (known-code refl)
+    by_answer (Ok tt) = changed-sent s (put_store s.store (new_entry k v))
+    by_answer (Err Full) = failing s _ (known-code refl)
+    by_answer (Err Unfit) = failing s _ (known-code refl)
 
 delete-sent : (s : State) (k : KeyValue) (o : Option Entry) → Sendable (delete_by s k o)
 delete-sent s k none = choosing k.force (changed-sent s s.store) (failing s _ (known-code refl))

@@ -1,7 +1,7 @@
 -- Document 02, CR 2: GETNEXT, GETPREVIOUS and GETKEYRANGE show the keys that a usable scope fits, and depend on no other.
 use Prim.Native.Nat.{ℕ, zero, suc, ◌-◌, ◌≤◌, ◌<◌}
 use native.Mathlib.Omega.{arith}
-use Rattle.std.specs.Prelude.{◌≡◌, Bool, ◌&&◌, ◌||◌, eqb}
+use Rattle.std.specs.Prelude.{◌≡◌, Bool, ◌&&◌, ◌||◌, eqb, Some}
 use Rattle.std.proofs.Math.Path.{refl, sym, ap}
 use Rattle.std.proofs.Common.{◌∙◌, subst}
 use Rattle.std.proofs.Math.Bool.{true, false, cond}
@@ -29,14 +29,12 @@ use Rattle.store_layout.proofs.NeighbourLaws.{next-nearest, previous-nearest, ne
 use Rattle.protocol.specs.declared.Operation.{Operation}
 use Rattle.protocol.specs.declared.Operation.TheVariants.{GetNext, GetPrevious, GetKeyRange}
 use Rattle.protocol.specs.declared.Permission.TheVariants.{Any}
-use Rattle.protocol.specs.declared.Asked.{Asked}
-use Rattle.protocol.specs.declared.Asked.TheVariants.{Request}
 use Rattle.protocol.specs.StatusCode.{NOT_AUTHORIZED, VERSION_FAILURE, NOT_FOUND, INVALID_REQUEST}
 use Rattle.protocol.specs.MessageType.{GETKEYRANGE}
 use Rattle.protocol.specs.State.{State, table, entries, accepted}
 use Rattle.protocol.specs.Command.{Header, Range, Body, Command}
 use Rattle.protocol.specs.Operation.{asked, asked_in, asked_by}
-use Rattle.protocol.specs.Judge.{Result, range, fails, succeeds, both_there, step4, step5, above_last, step6, step7, present, range_good, broken, fault, step8, key_value_in, range_in, step9, visible, visible_in, shown, in_range, keys_in, keys_of, step10, judge}
+use Rattle.protocol.specs.Judge.{Result, range, fails, succeeds, both_there, step4, step5, above_last, step6, present, range_good, broken, fault, key_value_in, range_in, step9, visible, visible_in, shown, in_range, keys_in, keys_of, step10, judge}
 use Rattle.protocol.specs.Passes.{Passes}
 use Rattle.protocol.specs.Onwards.{onwards}
 use Rattle.protocol.proofs.AcceptedLaws.{passed_on}
@@ -251,7 +249,7 @@ module _ (a : access.Acl) (s t : State) (c : s.connection ≡ t.connection) (hs 
 
 -- ---- NOT_AUTHORIZED: "exactly when the identity has no scope with the permission that this connection may use"
 
-asked-three : {n : ℕ} {o : Operation} {p : ℕ} → Three n o p → asked n ≡ Request (record { operation = o; permission = Any p; reply_type = n - 1 })
+asked-three : {n : ℕ} {o : Operation} {p : ℕ} → Three n o p → asked n ≡ Some (record { operation = o; permission = Any p; reply_type = n - 1 })
 unfolding asked asked_in
 asked-three next = refl
 asked-three previous = refl

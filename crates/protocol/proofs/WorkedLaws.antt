@@ -14,13 +14,14 @@ use Rattle.base_definitions.specs.BigEndian.{be32}
 use Rattle.base_definitions.specs.Lists.{map_l, only, same_bytes, fill}
 use Rattle.access_permission.specs.Permissions.{READ, RANGE}
 use Rattle.access_permission.specs.Permission.{fits_at, fits, permits}
-use Rattle.store_block.specs.declared.Order.{Order}
-use Rattle.store_block.specs.declared.Order.TheVariants.{Less, Equal, Greater}
+use Rattle.std.specs.declared.cmp.Ordering.{Ordering}
+use Rattle.std.specs.declared.cmp.Ordering.TheVariants.{Less, Equal, Greater}
 use Rattle.store_block.specs.Order.{cmp}
-use Rattle.store_block.specs.Flip.{flip}
+use Rattle.std.specs.Ordering.{ordering_reverse}
 use Rattle.store_block.specs.OrderLaws.{cmp-flip}
 use Rattle.store_block.specs.Entry.{Entry, entry}
-use Rattle.store_block.specs.Block.{sum_from, head, body, block, is_less, is_equal}
+use Rattle.std.specs.Ordering.{is_eq, is_lt}
+use Rattle.store_block.specs.Block.{sum_from, head, body, block}
 use Rattle.store_layout.specs.Entries.{next_of, previous_of}
 use Rattle.protocol.specs.Frame.{frame}
 use Rattle.protocol.specs.State.{State, table, entries}
@@ -76,7 +77,7 @@ module _ (s : State) (a : access.Acl) (v0 g0 w0 v2 g2 w2 : List ℕ) (a0 a2 : �
   visible-two e = ap (λ es. visible a s.connection.protected READ es) e
 
   w9 : entries s ≡ e0 ∷ e2 ∷ [] → seen (key_of 0x32) ≡ true → shown s false (next_of (key_of 0x31) (visible_in s a READ)) ≡ told s e2
-  unfolding next_of only cmp is_less
+  unfolding next_of only cmp
   w9 e p = ap (λ es. shown s false (next_of (key_of 0x31) es)) (visible-two e) ∙ go (seen (key_of 0x30)) (seen (key_of 0x32)) p
     where
       go : (x y : Bool) → y ≡ true → shown s false (next_of (key_of 0x31) (those x y)) ≡ told s e2
@@ -85,7 +86,7 @@ module _ (s : State) (a : access.Acl) (v0 g0 w0 v2 g2 w2 : List ℕ) (a0 a2 : �
       go x false q = never (cc)
 
   w10 : entries s ≡ e0 ∷ e2 ∷ [] → seen (key_of 0x30) ≡ true → shown s false (previous_of (key_of 0x31) (visible_in s a READ)) ≡ told s e0
-  unfolding previous_of only cmp is_less
+  unfolding previous_of only cmp
   w10 e p = ap (λ es. shown s false (previous_of (key_of 0x31) es)) (visible-two e) ∙ go (seen (key_of 0x30)) (seen (key_of 0x32)) p
     where
       go : (x y : Bool) → x ≡ true → shown s false (previous_of (key_of 0x31) (those x y)) ≡ told s e0
@@ -94,7 +95,7 @@ module _ (s : State) (a : access.Acl) (v0 g0 w0 v2 g2 w2 : List ℕ) (a0 a2 : �
       go false y q = never (cc)
 
   w10-none : entries s ≡ e0 ∷ e2 ∷ [] → shown s false (previous_of (key_of 0x30) (visible_in s a READ)) ≡ fails s 7
-  unfolding previous_of only cmp is_less
+  unfolding previous_of only cmp
   w10-none e = ap (λ es. shown s false (previous_of (key_of 0x30) es)) (visible-two e) ∙ go (seen (key_of 0x30)) (seen (key_of 0x32))
     where
       go : (x y : Bool) → shown s false (previous_of (key_of 0x30) (those x y)) ≡ fails s 7
@@ -104,8 +105,7 @@ module _ (s : State) (a : access.Acl) (v0 g0 w0 v2 g2 w2 : List ℕ) (a0 a2 : �
       go false false = refl
 
 -- a key is not both above another and below it, or equal where a flag is off
-between : (o : Order) (i j : Bool) → (i && j) ≡ false → ((is_less o || (i && is_equal o)) && (is_less (flip o) || (j && is_equal (flip o)))) ≡ false
-unfolding is_less is_equal
+between : (o : Ordering) (i j : Bool) → (i && j) ≡ false → ((is_lt o || (i && is_eq o)) && (is_lt (ordering_reverse o) || (j && is_eq (ordering_reverse o)))) ≡ false
 between Less true true e = refl
 between Less true false e = refl
 between Less false true e = refl
@@ -119,7 +119,7 @@ between Greater false j e = refl
 none_between : (k : List ℕ) (i j : Bool) (n : ℕ) (r : Bool) → (i && j) ≡ false → (x : List ℕ) → in_range (same_ends k i j n r) x ≡ false
 unfolding in_range
 none_between k i j n r h x =
-    ap (λ o. ((is_less (cmp k x) || (i && is_equal (cmp k x))) && (is_less o || (j && is_equal o)))) (cmp-flip k x) ∙ between (cmp k x) i j h
+    ap (λ o. ((is_lt (cmp k x) || (i && is_eq (cmp k x))) && (is_lt o || (j && is_eq o)))) (cmp-flip k x) ∙ between (cmp k x) i j h
 
 no_keys : (r : Range) → ((x : List ℕ) → in_range r x ≡ false) → (es : List Entry) → keys_in r es ≡ []
 unfolding keys_in only map_l

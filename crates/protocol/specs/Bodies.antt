@@ -1,11 +1,10 @@
 -- Document 01, "Replies": "Body only on success: PUT and DELETE an empty keyValue; GET, GETNEXT, GETPREVIOUS keyValue 3, 4, 5, 6 …, and the value part unless
 -- metadataOnly; GETVERSION keyValue 4 …; range with 8 for each key"; GETLOG a getLog (document 02, CR 1).
-use Rattle.std.specs.Prelude.{ℕ, ◌≡◌, Bool, cond, List, []}
+use Rattle.std.specs.Prelude.{ℕ, ◌≡◌, Bool, cond, List, [], None, Some}
 use Rattle.store_block.specs.Entry.{Entry}
+use Rattle.protocol.specs.Operation.{Asked}
 use Rattle.protocol.specs.declared.Operation.{Operation}
 use Rattle.protocol.specs.declared.Operation.TheVariants.{Noop, Get, GetVersion, GetNext, GetPrevious, GetKeyRange, Put, Delete, FlushAllData, Setup, GetLog, Security}
-use Rattle.protocol.specs.declared.Asked.{Asked}
-use Rattle.protocol.specs.declared.Asked.TheVariants.{Request, NotBuilt}
 use Rattle.protocol.specs.StatusCode.{SUCCESS}
 use Rattle.protocol.specs.Judge.{Log, ReplyBody, Result, bare, key_value, range, log}
 
@@ -30,8 +29,8 @@ Shape m GetKeyRange b v = (ks : List (List ℕ)) × (b ≡ range ks) × (v ≡ [
 
 -- no success without a built request
 abbrev pub ShapeOf : Bool → Asked → ReplyBody → List ℕ → Type 0
-ShapeOf m (Request x) b v = Shape m x.operation b v
-ShapeOf m NotBuilt b v = ⊥
+ShapeOf m (Some x) b v = Shape m x.operation b v
+ShapeOf m None b v = ⊥
 
 -- a result of a request, with metadataOnly or not
 pub record Bodied (m : Bool) (a : Asked) (r : Result) : Type 0 where

@@ -1,11 +1,9 @@
 -- The box: document 01 and CR 1 of document 02 whole, as one device of `Answer`.
-use Rattle.std.specs.Prelude.{List, [], ℕ}
+use Rattle.std.specs.Prelude.{List, [], ℕ, Option as Maybe, Some, None}
 use Rattle.std.proofs.Math.Option.{Option, none, some}
 use Rattle.fields_schema.specs.Tree.{Tree, map_o}
 use Rattle.access_record.specs.Table as access
 use Rattle.access_record.specs.Table.{place_of, table_good}
-use Rattle.access_record.specs.declared.IdentityPlace.{IdentityPlace}
-use Rattle.access_record.specs.declared.IdentityPlace.TheVariants.{At, Nobody}
 use Rattle.store_layout.specs.Store.{store_good}
 use Rattle.log_readings.specs.Lent.{readings_good}
 use Rattle.signature_hmac.specs.Hmac.{hmac}
@@ -20,9 +18,9 @@ use Rattle.protocol.specs.StatusCode.{HMAC_FAILURE, INVALID_REQUEST, CONNECTION_
 use Rattle.protocol.specs.Frame.{Framing, more, closes, whole}
 
 -- step 2: the ACL of an identity
-abbrev pub acl_at : State → IdentityPlace → Option access.Acl
-acl_at s (At i) = some (access.acl_of (table s) i)
-acl_at s Nobody = none
+abbrev pub acl_at : State → Maybe ℕ → Option access.Acl
+acl_at s (Some i) = some (access.acl_of (table s) i)
+acl_at s None = none
 
 abbrev pub acl_of : State → ℕ → Option access.Acl
 acl_of s i = acl_at s (place_of (table s) i)

@@ -1,5 +1,5 @@
 -- Document 01, "The order of judgement", steps 4 to 9, and "What each does", step 10: each step has the next as its last argument.
-use Rattle.std.specs.Prelude.{Bool, true, false, not, cond, ◌&&◌, ◌||◌, List, [], ◌∷◌, reverse, ℕ, ◌*◌, eqb, leb, length, take, get_or}
+use Rattle.std.specs.Prelude.{Bool, true, false, not, cond, ◌&&◌, ◌||◌, List, [], reverse, ℕ, ◌*◌, eqb, leb, length, take, get_or, None, Some, Result as StdResult, Ok, Err}
 use Rattle.std.proofs.Math.Option.{Option, none, some}
 use Rattle.std.specs.Int.Signed.{lt_z}
 use Rattle.fields_schema.specs.Tree.{guard, is_some, among}
@@ -12,14 +12,12 @@ use Rattle.access_record.specs.Record.{table_bytes, with_cluster_version}
 use Rattle.access_permission.specs.Permissions.{READ, RANGE}
 use Rattle.access_permission.specs.Permission.{permits, permits_any}
 use Rattle.store_block.specs.Order.{cmp}
-use Rattle.store_block.specs.Block.{is_less, is_equal}
+use Rattle.std.specs.Ordering.{is_eq, is_lt}
 use Rattle.store_block.specs.Entry.{Entry, entry, no_entry}
 use Rattle.store_layout.specs.Store.{blocks_in, entries_of}
 use Rattle.store_layout.specs.Entries.{find_in, next_of, previous_of, put_answer, put_store, delete_store}
-use Rattle.store_layout.specs.declared.KeyPlace.{KeyPlace}
-use Rattle.store_layout.specs.declared.KeyPlace.TheVariants.{At, Gap}
-use Rattle.store_layout.specs.declared.PutAnswer.{PutAnswer}
-use Rattle.store_layout.specs.declared.PutAnswer.TheVariants.{Stored, Full, Unfit}
+use Rattle.store_layout.specs.Entries.{PutAnswer}
+use Rattle.store_layout.specs.declared.PutError.TheVariants.{Full, Unfit}
 use Rattle.log_binary32.specs.Binary32.{portion}
 use Rattle.log_readings.specs.Lent.{Sample, utilizations, temperatures, utilization_sample, temperature_sample}
 use Rattle.protocol.specs.declared.Operation.{Operation}
@@ -27,11 +25,9 @@ use Rattle.protocol.specs.declared.Operation.TheVariants.{Noop, Get, GetVersion,
 use Rattle.protocol.specs.declared.Permission.{Permission}
 use Rattle.protocol.specs.declared.Permission.TheVariants.{Free, Key, Any}
 use Rattle.protocol.specs.declared.Choice.{Choice}
-use Rattle.protocol.specs.declared.Asked.{Asked}
-use Rattle.protocol.specs.declared.Asked.TheVariants.{Request, NotBuilt}
 use Rattle.protocol.specs.State.{State, table, entries, with_store, with_device, accepted}
 use Rattle.protocol.specs.Command.{Header, KeyValue, Range, Scope, Acl, Body, Command}
-use Rattle.protocol.specs.Operation.{asked_by}
+use Rattle.protocol.specs.Operation.{Asked, asked_by}
 use Rattle.protocol.specs.StatusCode.{SUCCESS, NOT_AUTHORIZED, VERSION_FAILURE, HEADER_REQUIRED, NOT_FOUND, VERSION_MISMATCH, NO_SPACE, NO_SUCH_HMAC_ALGORITHM, INVALID_REQUEST}
 use Rattle.protocol.specs.LogType.{UTILIZATIONS, TEMPERATURES, CAPACITIES, CONFIGURATION, STATISTICS, MESSAGES, LIMITS, DEVICE}
 
@@ -100,8 +96,8 @@ step6 s c q next = cond (eqb c s.connection.number && above_last q s.connection.
 -- ---- step 7: "messageType is a request built here: else 16"
 
 abbrev pub step7 : State → Asked → (Choice → Result) → Result
-step7 s (Request x) next = next x
-step7 s NotBuilt next = fails s INVALID_REQUEST
+step7 s (Some x) next = next x
+step7 s None next = fails s INVALID_REQUEST
 
 -- ---- step 8: "Its body part is present (NOOP and FLUSHALLDATA need none) and well formed: else 16"
 
@@ -204,9 +200,9 @@ step9 s a p b next = cond (permitted a s.connection.protected p b) next (fails s
 -- ---- step 10: "The operation", by "What each does"
 
 -- the entry under a key
-abbrev pub entry_at : State → KeyPlace → Option Entry
-entry_at s (At i) = some (get_or (entries s) i no_entry)
-entry_at s (Gap i) = none
+abbrev pub entry_at : State → StdResult ℕ ℕ → Option Entry
+entry_at s (Ok i) = some (get_or (entries s) i no_entry)
+entry_at s (Err i) = none
 
 abbrev pub entry_of : State → List ℕ → Option Entry
 entry_of s k = entry_at s (find_in k (entries s))
@@ -249,9 +245,9 @@ changed s l = succeeds (with_store s l) (key_value [] [] [] 0) []
 -- SUCCESS where the store takes the entry; "with no blank block: NO_SPACE (14), and only then". An entry that fits no block would be
 -- INVALID_REQUEST: `fits-or-full` of `PutLaws` shows that no command with one passes steps 3 and 8
 abbrev pub put_by : State → Entry → PutAnswer → Result
-put_by s e Stored = changed s (put_store s.store e)
-put_by s e Full = fails s NO_SPACE
-put_by s e Unfit = fails s INVALID_REQUEST
+put_by s e (Ok tt) = changed s (put_store s.store e)
+put_by s e (Err Full) = fails s NO_SPACE
+put_by s e (Err Unfit) = fails s INVALID_REQUEST
 
 -- "else VERSION_MISMATCH (8). A new key that passes this, with no blank block"
 abbrev pub put : State → KeyValue → List ℕ → Result
@@ -268,8 +264,8 @@ delete_by s k (some e) = cond (version_right k (some e)) (changed s (delete_stor
 -- "keys above start (or equal, if inclusive) and below end (likewise)"
 unfoldable pub in_range : Range → List ℕ → Bool
 in_range r k =
-    (is_less (cmp (or_else [] r.start_key) k) || (r.start_inclusive && is_equal (cmp (or_else [] r.start_key) k))) &&
-    (is_less (cmp k (or_else [] r.end_key)) || (r.end_inclusive && is_equal (cmp k (or_else [] r.end_key))))
+    (is_lt (cmp (or_else [] r.start_key) k) || (r.start_inclusive && is_eq (cmp (or_else [] r.start_key) k))) &&
+    (is_lt (cmp k (or_else [] r.end_key)) || (r.end_inclusive && is_eq (cmp k (or_else [] r.end_key))))
 
 unfoldable pub keys_in : Range → List Entry → List (List ℕ)
 keys_in r es = map_l (λ (e : Entry). e.key) (only (λ (e : Entry). in_range r e.key) es)

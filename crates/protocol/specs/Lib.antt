@@ -1,5 +1,6 @@
 -- Definitions, in reading order (docs/READING.md).
 pub mod StatusCode
+pub mod Failure
 pub mod AuthType
 pub mod LogType
 pub mod MessageType

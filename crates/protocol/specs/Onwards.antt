@@ -1,7 +1,7 @@
 -- Steps 7 to 10 of a command that passes those before: a name for laws.
 use Rattle.std.specs.Prelude.{ℕ, List}
 use Rattle.access_record.specs.Table as access
-use Rattle.protocol.specs.declared.Asked.{Asked}
+use Rattle.protocol.specs.Operation.{Asked}
 use Rattle.protocol.specs.State.{State, accepted}
 use Rattle.protocol.specs.Command.{Command}
 use Rattle.protocol.specs.Judge.{Result, step7, step8, step9, step10}

@@ -1,5 +1,6 @@
 -- Step 7: "Match on messageType numbers chooses operation, permission and reply type, everything else refused."
-use Rattle.std.specs.Prelude.{cond, List, [], ◌∷◌, ℕ, ◌-◌, eqb}
+use Rattle.std.specs.Prelude.{cond, List, [], ◌∷◌, ℕ, ◌-◌, eqb, None, Some}
+use Rattle.std.specs.declared.option.Option as code
 use Rattle.std.proofs.Math.Option.{Option, none, some}
 use Rattle.access_permission.specs.Permissions as permission
 use Rattle.protocol.specs.declared.Operation.{Operation}
@@ -7,8 +8,6 @@ use Rattle.protocol.specs.declared.Operation.TheVariants.{Noop, Get, GetVersion,
 use Rattle.protocol.specs.declared.Permission.{Permission}
 use Rattle.protocol.specs.declared.Permission.TheVariants.{Free, Key, Any}
 use Rattle.protocol.specs.declared.Choice.{Choice}
-use Rattle.protocol.specs.declared.Asked.{Asked}
-use Rattle.protocol.specs.declared.Asked.TheVariants.{Request, NotBuilt}
 use Rattle.protocol.specs.MessageType.{GET, PUT, DELETE, GETNEXT, GETPREVIOUS, GETKEYRANGE, GETVERSION, SETUP, GETLOG, SECURITY, NOOP, FLUSHALLDATA, INVALID_MESSAGE_TYPE}
 
 -- a request that is built: its messageType, its operation, and the permission that it needs
@@ -42,9 +41,13 @@ rows =
 abbrev pub chosen : Row → Choice
 chosen r = record { operation = r.operation; permission = r.permission; reply_type = r.type - 1 }
 
+-- what a messageType asks for, if it is that of a request that is built
+abbrev pub Asked : Type 0
+Asked = code.Option Choice
+
 unfoldable pub asked_in : List Row → ℕ → Asked
-asked_in [] n = NotBuilt
-asked_in (r ∷ rs) n = cond (eqb n r.type) (Request (chosen r)) (asked_in rs n)
+asked_in [] n = None
+asked_in (r ∷ rs) n = cond (eqb n r.type) (Some (chosen r)) (asked_in rs n)
 
 -- what a number asks for
 unfoldable pub asked : ℕ → Asked
@@ -52,10 +55,10 @@ asked n = asked_in rows n
 
 -- what a header's messageType asks for; an absent one nothing
 abbrev pub asked_by : Option ℕ → Asked
-asked_by none = NotBuilt
+asked_by none = None
 asked_by (some n) = asked n
 
 -- the type of the reply: "-1 where no built request is read"
 abbrev pub reply_type : Asked → ℕ
-reply_type (Request c) = c.reply_type
-reply_type NotBuilt = INVALID_MESSAGE_TYPE
+reply_type (Some c) = c.reply_type
+reply_type None = INVALID_MESSAGE_TYPE

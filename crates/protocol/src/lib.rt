@@ -38,10 +38,3 @@ pub struct Choice {
     pub permission: Permission,
     pub reply_type: u64,
 }
-
-// What a messageType asks for, or that no built request has it.
-#[derive(Clone, Copy)]
-pub enum Asked {
-    Request(Choice),
-    NotBuilt,
-}

@@ -1,5 +1,5 @@
 -- What came of a request that was answered, and that a reply says one thing.
-use Rattle.std.specs.Prelude.{ℕ, ◌+◌, ◌≡◌, refl, ◌⊎◌, List, [], length}
+use Rattle.std.specs.Prelude.{ℕ, ◌+◌, ◌≡◌, refl, ◌⊎◌, List, [], length, Some}
 use Rattle.std.proofs.Common.{sym, ap, ◌∙◌, subst, inl, inr}
 use Rattle.std.proofs.Math.Option.{Option, none, some}
 use Rattle.fields_schema.specs.Tree.{map_o, Tree, listed, raw_at, sub_at}
@@ -8,12 +8,10 @@ use Rattle.fields_encoding.proofs.BasicLaws.{never}
 use Rattle.store_layout.proofs.CheckLaws.{store-decides}
 use Rattle.protocol.specs.declared.Operation.{Operation}
 use Rattle.protocol.specs.declared.Choice.{Choice}
-use Rattle.protocol.specs.declared.Asked.{Asked}
-use Rattle.protocol.specs.declared.Asked.TheVariants.{Request}
 use Rattle.protocol.specs.StatusCode.{SUCCESS, NOT_FOUND}
 use Rattle.protocol.specs.State.{State}
 use Rattle.protocol.specs.Command.{command_of}
-use Rattle.protocol.specs.Operation.{asked_by, reply_type}
+use Rattle.protocol.specs.Operation.{Asked, asked_by, reply_type}
 use Rattle.protocol.specs.Frame.{whole}
 use Rattle.protocol.specs.Judge.{ReplyBody, Result, fault, judge}
 use Rattle.protocol.specs.Reply.{signed_reply, command_tree, reply_tree}
@@ -93,7 +91,7 @@ pub result : {s : State} {t : Tree} {v r : List ℕ} {s' : State} (a : Answered 
     → (judge s (came a).acl (command_of t) v).code ≡ code
 result a h = (one-reply (came a).replies h).0
 
-pub one-operation : {a : Asked} {x : Choice} {o : Operation} → a ≡ Request x → operation_in a ≡ some o → x.operation ≡ o
+pub one-operation : {a : Asked} {x : Choice} {o : Operation} → a ≡ Some x → operation_in a ≡ some o → x.operation ≡ o
 one-operation {a} {x} {o} e asks = let z : some x.operation ≡ some o = sym (ap operation_in e) ∙ asks in cc
 
 -- SUCCESS ONLY WHERE PERMITTED: a request that is answered SUCCESS, or NOT_FOUND, passed steps 4 to 9

@@ -1,5 +1,5 @@
 -- Every answered call is one of the cases.
-use Rattle.std.specs.Prelude.{ℕ, ◌+◌, ◌≤◌, ◌≡◌, Bool, true, false, cond, ◌&&◌, List, [], eqb, ltb, length}
+use Rattle.std.specs.Prelude.{ℕ, ◌+◌, ◌≤◌, ◌≡◌, Bool, true, false, cond, ◌&&◌, List, [], eqb, ltb, length, None, Some}
 use Rattle.std.proofs.Common.{arith, sym, ap, ◌∙◌, subst, eqb-true, eq-eqb}
 use Rattle.std.proofs.Math.Path.{refl}
 use Rattle.std.proofs.Math.Option.{Option, none, some}
@@ -13,22 +13,21 @@ use Rattle.access_permission.specs.Permissions.{READ}
 use Rattle.store_block.specs.Entry.{Entry}
 use Rattle.store_layout.specs.Store.{store_good}
 use Rattle.store_layout.specs.Entries.{put_answer, delete_store, next_of, previous_of}
-use Rattle.store_layout.specs.declared.PutAnswer.{PutAnswer}
-use Rattle.store_layout.specs.declared.PutAnswer.TheVariants.{Stored, Full, Unfit}
+use Rattle.store_layout.specs.Entries.{PutAnswer}
+use Rattle.std.specs.Prelude.{Ok, Err}
+use Rattle.store_layout.specs.declared.PutError.TheVariants.{Full, Unfit}
 use Rattle.log_readings.specs.Lent.{readings_good}
 use Rattle.protocol.specs.declared.Operation.{Operation}
 use Rattle.protocol.specs.declared.Operation.TheVariants.{Noop, Get, GetVersion, GetNext, GetPrevious, GetKeyRange, Put, Delete, FlushAllData, Setup, GetLog, Security}
 use Rattle.protocol.specs.declared.Choice.{Choice}
-use Rattle.protocol.specs.declared.Asked.{Asked}
-use Rattle.protocol.specs.declared.Asked.TheVariants.{Request, NotBuilt}
 use Rattle.protocol.specs.StatusCode.{SUCCESS, NOT_AUTHORIZED, VERSION_FAILURE, NOT_FOUND, NO_SPACE, NO_SUCH_HMAC_ALGORITHM, INVALID_REQUEST, CONNECTION_TERMINATED}
 use Rattle.protocol.specs.State.{State, table, accepted, closing}
 use Rattle.protocol.specs.Command.{Header, Body, Command, command_of}
-use Rattle.protocol.specs.Operation.{asked_by}
+use Rattle.protocol.specs.Operation.{Asked, asked_by}
 use Rattle.protocol.specs.Frame.{Framing, more, closes, whole, frame_of}
 use Rattle.protocol.specs.Reading as reads
 use Rattle.protocol.specs.Reading.{Reading, undecodable, read}
-use Rattle.protocol.specs.Judge.{Result, fails, both_there, step4, step5, above_last, step6, step7, fault, step8, key_value_in, permitted, step9, entry_of, visible_in, shown, version_shown, version_right, new_entry, changed, put_by, put, delete_by, set_up, step10, judge}
+use Rattle.protocol.specs.Judge.{Result, fails, both_there, step4, step5, above_last, step6, fault, key_value_in, permitted, step9, entry_of, visible_in, shown, version_shown, version_right, new_entry, changed, put_by, put, delete_by, set_up, step10, judge}
 use Rattle.protocol.specs.Passes.{Passes}
 use Rattle.protocol.specs.Onwards.{onwards}
 use Rattle.protocol.specs.FaultCode.{FaultCode, nothing, no_algorithm, invalid}
@@ -57,9 +56,9 @@ put-effect s b v = go (version_right (key_value_in b) (entry_of s (key_value_in 
   where
     go : (x : Bool) → version_right (key_value_in b) (entry_of s (key_value_in b).key) ≡ x → (y : PutAnswer) → put_answer s.store (new_entry (key_value_in b) v) ≡ y
         → Effect s b v Put (cond x (put_by s (new_entry (key_value_in b) v) y) (fails s 8))
-    go true e Stored h = puts e h
-    go true e Full h = failing NO_SPACE (λ z. omega arith)
-    go true e Unfit h = failing INVALID_REQUEST (λ z. omega arith)
+    go true e (Ok tt) h = puts e h
+    go true e (Err Full) h = failing NO_SPACE (λ z. omega arith)
+    go true e (Err Unfit) h = failing INVALID_REQUEST (λ z. omega arith)
     go false e y h = failing 8 (λ z. omega arith)
 
 delete-effect : (s : State) (b : Body) (v : List ℕ) → Effect s b v Delete (delete_by s (key_value_in b) (entry_of s (key_value_in b).key))
@@ -118,10 +117,10 @@ module _ (s : State) (a : access.Acl) (c : Command) (v : List ℕ) where
   faulty q g x invalid f = late q g INVALID_REQUEST (λ e. omega arith) (λ e. omega arith)
 
   asked_by_lem : (q : ℕ) (o : Asked) → Passes s c q → asked_by (type_of c.header) ≡ o → Judged s a c v (onwards s a c v q o)
-  asked_by_lem q (Request x) g e =
+  asked_by_lem q (Some x) g e =
       faulty q g (step9 (accepted s q) a x.permission c.body (step10 (accepted s q) a x.operation c.body v)) (fault-code x.operation c.body v) (λ f.
       chosen (permitted a s.connection.protected x.permission c.body) (step10 (accepted s q) a x.operation c.body v) (fails (accepted s q) NOT_AUTHORIZED) (λ p. obeyed g e f p) (late q g NOT_AUTHORIZED (λ e. omega arith) (λ e. omega arith)))
-  asked_by_lem q NotBuilt g e = late q g INVALID_REQUEST (λ e. omega arith) (λ e. omega arith)
+  asked_by_lem q None g e = late q g INVALID_REQUEST (λ e. omega arith) (λ e. omega arith)
 
   both-there : (h : Header) (i q : Option ℕ) → c.header ≡ some h → h.connection_id ≡ i → h.sequence ≡ q
       → Judged s a c v (both_there s h i q (λ h connection q. step5 s h (step6 s connection q (onwards s a c v q (asked_by h.message_type)))))
@@ -151,7 +150,7 @@ module _ (s : State) (a : access.Acl) (c : Command) (v : List ℕ) where
       go (some h) e = both-there h h.connection_id h.sequence e refl refl
 
 -- and where steps 4 to 9 pass, the result is that of step 10
-pub judge-obeys : (s : State) (a : access.Acl) (c : Command) (v : List ℕ) (q : ℕ) (x : Choice) → Passes s c q → asked_by (type_of c.header) ≡ Request x
+pub judge-obeys : (s : State) (a : access.Acl) (c : Command) (v : List ℕ) (q : ℕ) (x : Choice) → Passes s c q → asked_by (type_of c.header) ≡ Some x
     → fault x.operation c.body v ≡ 0 → permitted a s.connection.protected x.permission c.body ≡ true
     → judge s a c v ≡ step10 (accepted s q) a x.operation c.body v
 unfolding judge
@@ -160,7 +159,7 @@ judge-obeys s a c v q x p e f m =
     let n = s.connection.number in
     let next = step10 (accepted s q) a x.operation c.body v in
     let permit = step9 (accepted s q) a x.permission c.body next in
-    let asked : asked_by h.message_type ≡ Request x = sym (ap (λ o. asked_by (type_of o)) p.there) ∙ e in
+    let asked : asked_by h.message_type ≡ Some x = sym (ap (λ o. asked_by (type_of o)) p.there) ∙ e in
     ap (λ x. step4 s x (λ h connection q. step5 s h (step6 s connection q (onwards s a c v q (asked_by h.message_type))))) p.there
     ∙ ap (λ i. both_there s h i h.sequence (λ h connection q. step5 s h (step6 s connection q (onwards s a c v q (asked_by h.message_type))))) p.connection
     ∙ ap (λ z. both_there s h (some n) z (λ h connection q. step5 s h (step6 s connection q (onwards s a c v q (asked_by h.message_type))))) p.sequence

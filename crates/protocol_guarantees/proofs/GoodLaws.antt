@@ -17,8 +17,9 @@ use Rattle.store_layout.specs.Store.{store_good, Good}
 use Rattle.store_layout.proofs.CheckLaws.{store-decides}
 use Rattle.store_layout.proofs.KeptLaws.{put-kept, put_same, delete-kept}
 use Rattle.store_layout.specs.Entries.{put_answer, put_store}
-use Rattle.store_layout.specs.declared.PutAnswer.{PutAnswer}
-use Rattle.store_layout.specs.declared.PutAnswer.TheVariants.{Stored, Full, Unfit}
+use Rattle.store_layout.specs.Entries.{PutAnswer}
+use Rattle.std.specs.Prelude.{Ok, Err}
+use Rattle.store_layout.specs.declared.PutError.TheVariants.{Full, Unfit}
 use Rattle.log_readings.specs.Lent.{readings_good}
 use Rattle.base_definitions.specs.Refusals.{STORE_BAD, DEVICE_BAD}
 use Rattle.protocol.specs.StatusCode.{NO_SUCH_HMAC_ALGORITHM, INVALID_REQUEST, CONNECTION_TERMINATED}
@@ -41,9 +42,9 @@ put-good : (l : List ℕ) (e : Entry) → Good l → Good (put_store l e)
 put-good l e g = go (put_answer l e) refl
   where
     go : (a : PutAnswer) → put_answer l e ≡ a → Good (put_store l e)
-    go Stored q = (put-kept l g e q).good
-    go Full q = subst Good (sym (put_same l g e (λ z. never (cc)))) g
-    go Unfit q = subst Good (sym (put_same l g e (λ z. never (cc)))) g
+    go (Ok tt) q = (put-kept l g e q).good
+    go (Err Full) q = subst Good (sym (put_same l g e (λ z. never (cc)))) g
+    go (Err Unfit) q = subst Good (sym (put_same l g e (λ z. never (cc)))) g
 
 -- a record whose table is good has its cluster version
 version-there : (l : List ℕ) → table_good (table_of l) ≡ true → 8 ≤ length l

@@ -1,5 +1,5 @@
 -- What was acknowledged is there.
-use Rattle.std.specs.Prelude.{ℕ, ◌≡◌, refl, Bool, true, false, cond, ◌||◌, List, []}
+use Rattle.std.specs.Prelude.{ℕ, ◌≡◌, refl, Bool, true, false, cond, ◌||◌, List, [], Result as StdResult, Ok, Err}
 use Rattle.std.proofs.Common.{sym, ap, ◌∙◌, subst}
 use Rattle.std.proofs.Math.Option.{Option, none, some}
 use Rattle.fields_schema.specs.Tree.{Tree}
@@ -9,8 +9,6 @@ use Rattle.base_definitions.proofs.ListLaws.{same_bytes-true}
 use Rattle.store_block.specs.Order.{cmp}
 use Rattle.store_block.specs.OrderLaws.{cmp-refl}
 use Rattle.store_block.specs.Entry.{Entry}
-use Rattle.store_layout.specs.declared.KeyPlace.{KeyPlace}
-use Rattle.store_layout.specs.declared.KeyPlace.TheVariants.{At, Gap}
 use Rattle.store_layout.specs.Store.{entries_of, store_good}
 use Rattle.store_layout.specs.Lookup.{under}
 use Rattle.store_layout.proofs.LookupLaws.{find_at, find-gap, put_under, remove-under}
@@ -35,9 +33,9 @@ use Rattle.protocol_guarantees.proofs.UnchangedLaws.{spared-stays}
 entry-under : (s : State) (k : List ℕ) → entry_of s k ≡ under k (entries s)
 entry-under s k = go (find_in k (entries s)) refl
   where
-    go : (o : KeyPlace) → find_in k (entries s) ≡ o → entry_at s o ≡ under k (entries s)
-    go (At i) q = sym (find_at k (entries s) i q)
-    go (Gap i) q = sym (find-gap k (entries s) i q)
+    go : (o : StdResult ℕ ℕ) → find_in k (entries s) ≡ o → entry_at s o ≡ under k (entries s)
+    go (Ok i) q = sym (find_at k (entries s) i q)
+    go (Err i) q = sym (find-gap k (entries s) i q)
 
 -- ---- what an acknowledged PUT and DELETE leave
 

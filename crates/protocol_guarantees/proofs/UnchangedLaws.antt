@@ -4,8 +4,8 @@ use Rattle.std.proofs.Common.{sym, ap, ◌∙◌, subst, inl, inr}
 use Rattle.std.proofs.Math.Option.{none, some}
 use Rattle.fields_schema.specs.Tree.{Tree}
 use Rattle.fields_encoding.proofs.BasicLaws.{never}
-use Rattle.store_block.specs.declared.Order.{Order}
-use Rattle.store_block.specs.declared.Order.TheVariants.{Less, Equal, Greater}
+use Rattle.std.specs.declared.cmp.Ordering.{Ordering}
+use Rattle.std.specs.declared.cmp.Ordering.TheVariants.{Less, Equal, Greater}
 use Rattle.store_block.specs.Order.{cmp}
 use Rattle.store_block.specs.OrderLaws.{cmp-equal}
 use Rattle.store_block.specs.Entry.{Entry}
@@ -15,8 +15,9 @@ use Rattle.store_layout.specs.Lookup.{under}
 use Rattle.store_layout.proofs.LookupLaws.{put_under, remove-under}
 use Rattle.store_layout.proofs.KeptLaws.{put-kept, put_same, delete-kept}
 use Rattle.store_layout.specs.Entries.{by_order, put_answer, put_store, delete_store}
-use Rattle.store_layout.specs.declared.PutAnswer.{PutAnswer}
-use Rattle.store_layout.specs.declared.PutAnswer.TheVariants.{Stored, Full, Unfit}
+use Rattle.store_layout.specs.Entries.{PutAnswer}
+use Rattle.std.specs.Prelude.{Ok, Err}
+use Rattle.store_layout.specs.declared.PutError.TheVariants.{Full, Unfit}
 use Rattle.protocol.specs.declared.Operation.{Operation}
 use Rattle.protocol.specs.declared.Operation.TheVariants.{Put, Delete, Setup, Security}
 use Rattle.protocol.specs.StatusCode.{SUCCESS}
@@ -55,7 +56,7 @@ unequal : {X : Type 0} (k l : List ℕ) (a b : X) → (l ≡ k → ⊥) → by_o
 unfolding by_order
 unequal k l a b n = go (cmp k l) refl
   where
-    go : (o : Order) → cmp k l ≡ o → by_order o a b a ≡ a
+    go : (o : Ordering) → cmp k l ≡ o → by_order o a b a ≡ a
     go Less e = refl
     go Equal e = absurd (n (sym (cmp-equal k l e)))
     go Greater e = refl
@@ -65,9 +66,9 @@ module _ (k l : List ℕ) (g : Good l) where
   put-spares e n = go (put_answer l e) refl
     where
       go : (a : PutAnswer) → put_answer l e ≡ a → under k (entries_of (put_store l e)) ≡ under k (entries_of l)
-      go Stored q = ap (under k) (put-kept l g e q).entries ∙ put_under k e (entries_of l) ∙ unequal k e.key (under k (entries_of l)) (some e) n
-      go Full q = ap (λ l. under k (entries_of l)) (put_same l g e (λ z. never (cc)))
-      go Unfit q = ap (λ l. under k (entries_of l)) (put_same l g e (λ z. never (cc)))
+      go (Ok tt) q = ap (under k) (put-kept l g e q).entries ∙ put_under k e (entries_of l) ∙ unequal k e.key (under k (entries_of l)) (some e) n
+      go (Err Full) q = ap (λ l. under k (entries_of l)) (put_same l g e (λ z. never (cc)))
+      go (Err Unfit) q = ap (λ l. under k (entries_of l)) (put_same l g e (λ z. never (cc)))
 
   delete-spares : (d : List ℕ) → (d ≡ k → ⊥) → under k (entries_of (delete_store l d)) ≡ under k (entries_of l)
   delete-spares d n = ap (under k) (delete-kept l g d).entries ∙ remove-under k d (entries_of l) g.sorted ∙ unequal k d (under k (entries_of l)) none n

@@ -1,16 +1,14 @@
 -- The words of the customer's laws: a request that was answered, and the reply that a client reads.
-use Rattle.std.specs.Prelude.{ℕ, ◌^◌, ◌<◌, ◌≡◌, true, List}
+use Rattle.std.specs.Prelude.{ℕ, ◌^◌, ◌<◌, ◌≡◌, true, List, None, Some}
 use Rattle.std.proofs.Math.Option.{Option, none, some}
 use Rattle.fields_schema.specs.FieldNumbers.{Command-body}
 use Rattle.fields_schema.specs.Tree.{Tree, sub_at}
 use Rattle.access_record.specs.Table as access
 use Rattle.protocol.specs.declared.Operation.{Operation}
 use Rattle.protocol.specs.declared.Choice.{Choice}
-use Rattle.protocol.specs.declared.Asked.{Asked}
-use Rattle.protocol.specs.declared.Asked.TheVariants.{Request, NotBuilt}
 use Rattle.protocol.specs.State.{State}
 use Rattle.protocol.specs.Command.{KeyValue, command_of}
-use Rattle.protocol.specs.Operation.{asked_by}
+use Rattle.protocol.specs.Operation.{Asked, asked_by}
 use Rattle.protocol.specs.Frame.{frame_of, whole}
 use Rattle.protocol.specs.Reading.{read}
 use Rattle.protocol.specs.Judge.{ReplyBody, fault, key_value_in, permitted}
@@ -22,8 +20,8 @@ use Rattle.protocol.specs.PartsRead.{body_read, code_read}
 
 -- the operation that is asked for
 abbrev pub operation_in : Asked → Option Operation
-operation_in (Request x) = some x.operation
-operation_in NotBuilt = none
+operation_in (Some x) = some x.operation
+operation_in None = none
 
 -- the command t asks for the operation
 abbrev pub Asks : Tree → Operation → Type 0
@@ -53,7 +51,7 @@ pub record Admitted (s : State) (i : ℕ) (t : Tree) (v : List ℕ) (o : Operati
   pub sequence : ℕ
   pub passes : Passes s (command_of t) sequence
   pub choice : Choice
-  pub chosen : asked_by (type_of (command_of t).header) ≡ Request choice
+  pub chosen : asked_by (type_of (command_of t).header) ≡ Some choice
   pub asks : choice.operation ≡ o
   pub well_formed : fault o (command_of t).body v ≡ 0
   pub acl : access.Acl

@@ -1,5 +1,5 @@
 -- What comes of an answered call, by cases.
-use Rattle.std.specs.Prelude.{ℕ, ◌≡◌, Bool, true, false, List, []}
+use Rattle.std.specs.Prelude.{ℕ, ◌≡◌, Bool, true, false, List, [], Some}
 use Rattle.std.proofs.Math.Option.{none, some}
 use Rattle.fields_schema.specs.Tree.{Tree}
 use Rattle.base_definitions.specs.Options.{or_else}
@@ -8,11 +8,10 @@ use Rattle.access_record.specs.Table.{table_good}
 use Rattle.access_record.specs.Record.{with_cluster_version}
 use Rattle.store_layout.specs.Store.{Good}
 use Rattle.store_layout.specs.Entries.{put_answer, put_store, delete_store}
-use Rattle.store_layout.specs.declared.PutAnswer.TheVariants.{Stored}
+use Rattle.std.specs.Prelude.{Ok}
 use Rattle.protocol.specs.declared.Operation.{Operation}
 use Rattle.protocol.specs.declared.Operation.TheVariants.{Noop, Get, GetVersion, GetNext, GetPrevious, GetKeyRange, Put, Delete, FlushAllData, Setup, GetLog, Security}
 use Rattle.protocol.specs.declared.Choice.{Choice}
-use Rattle.protocol.specs.declared.Asked.TheVariants.{Request}
 use Rattle.protocol.specs.StatusCode.{SUCCESS, NOT_FOUND}
 use Rattle.protocol.specs.State.{State, table, with_device, accepted, closing}
 use Rattle.protocol.specs.Command.{Body, Command, command_of}
@@ -45,7 +44,7 @@ pub data Effect (s : State) (b : Body) (v : List ℕ) : Operation → Result →
   refuses : {o : Operation} {code : ℕ} → (code ≡ SUCCESS → ⊥) → Effect s b v o (fails s code)
   shows : {o : Operation} {body : ReplyBody} {value : List ℕ} → writes o ≡ false → Effect s b v o (succeeds s body value)
   puts : version_right (key_value_in b) (entry_of s (key_value_in b).key) ≡ true
-      → put_answer s.store (new_entry (key_value_in b) v) ≡ Stored
+      → put_answer s.store (new_entry (key_value_in b) v) ≡ Ok tt
       → Effect s b v Put (changed s (put_store s.store (new_entry (key_value_in b) v)))
   misses : entry_of s (key_value_in b).key ≡ none → Effect s b v Delete (changed s s.store)
   deletes : Effect s b v Delete (changed s (delete_store s.store (key_value_in b).key))
@@ -56,7 +55,7 @@ pub data Effect (s : State) (b : Body) (v : List ℕ) : Operation → Result →
 pub data Judged (s : State) (a : access.Acl) (c : Command) (v : List ℕ) : Result → Type 0 where
   before : {code : ℕ} → (code ≡ SUCCESS → ⊥) → (code ≡ NOT_FOUND → ⊥) → Judged s a c v (fails s code)
   after : {q code : ℕ} → Passes s c q → (code ≡ SUCCESS → ⊥) → (code ≡ NOT_FOUND → ⊥) → Judged s a c v (fails (accepted s q) code)
-  obeyed : {q : ℕ} {x : Choice} → Passes s c q → asked_by (type_of c.header) ≡ Request x → fault x.operation c.body v ≡ 0
+  obeyed : {q : ℕ} {x : Choice} → Passes s c q → asked_by (type_of c.header) ≡ Some x → fault x.operation c.body v ≡ 0
       → permitted a s.connection.protected x.permission c.body ≡ true → Judged s a c v (step10 (accepted s q) a x.operation c.body v)
 
 -- what an answered call on the input xs leaves: the connection closed, all as it was, or what steps 4 to 10 leave

@@ -17,7 +17,7 @@ use Rattle.fields_schema.specs.Tree.{items, level, open_all, listed_in, listed}
 use Rattle.fields_encoding.specs.Encode.{encode, int_if, raw_if, fix_o, each, sub_o, each_sub}
 use Rattle.store_block.specs.Order.{cmp}
 use Rattle.store_block.specs.Entry.{Entry}
-use Rattle.store_block.specs.Block.{decode, is_equal, fit_test}
+use Rattle.store_block.specs.Block.{decode, fit_test}
 use Rattle.store_layout.specs.Store.{size_good, store_good}
 use Rattle.access_record.specs.Table as access
 use Rattle.access_record.specs.Table.{named, mask_of, mask_good, offset_good, scope_good, acl_good, find_from, acls_good, table_good}
@@ -27,10 +27,9 @@ use Rattle.log_binary32.specs.Celsius.{celsius_of}
 use Rattle.log_readings.specs.Lent.{bits_at, lent_at, places_from, all_named, readings_good}
 use Rattle.store_rescue.specs.State.{blank_test, state_of}
 use Rattle.store_rescue.specs.Rescue.{report, report_byte, rescue_of}
-use Rattle.protocol.specs.declared.Asked.{Asked}
 use Rattle.protocol.specs.State.{State, table, accepted}
 use Rattle.protocol.specs.Command.{Body, Command}
-use Rattle.protocol.specs.Operation.{asked, asked_in, asked_by}
+use Rattle.protocol.specs.Operation.{Asked, asked, asked_in, asked_by}
 use Rattle.protocol.specs.Frame.{more, frame_of}
 use Rattle.protocol.specs.Reading.{read_message, security_once, reading_by}
 use Rattle.protocol.specs.Judge.{Result, key_value_good, range_good, types_good, permissions_good, acl_read, security_good, algorithms_good, broken, log_with, step7, step8, step9, step10, judge, set_up}
@@ -133,7 +132,7 @@ formats store = record {
 }
 
 blocks : BlockNumbers
-unfolding decode fit_test blank_test is_equal cmp map_l
+unfolding decode fit_test blank_test cmp map_l
 blocks = record { lengths = refl; places = λ b. refl; blank_bytes = refl }
 
 frames : FrameNumbers

@@ -1,6 +1,6 @@
 -- The numbers of documents 01, 02 and 003, of FIPS 180-4 and of RFC 2104, written out as they give them, and that the definitions behave so.
 -- No named number of another file stands here: one that is wrong in a definition, and in the code with it, is refused by `documented`.
-use Rattle.std.specs.Prelude.{◌≡◌, Bool, true, false, cond, List, [], ◌∷◌, ◌++◌, ℕ, zero, suc, ◌+◌, ◌-◌, ◌*◌, ◌/◌, ◌%◌, ◌^◌, ◌≤◌, ◌<◌, eqb, length, take, drop, get_or, replicate}
+use Rattle.std.specs.Prelude.{◌≡◌, Bool, true, false, cond, List, [], ◌∷◌, ◌++◌, ℕ, zero, suc, ◌+◌, ◌-◌, ◌*◌, ◌/◌, ◌%◌, ◌≤◌, ◌<◌, eqb, length, take, drop, get_or, replicate, None, Some}
 use Rattle.std.proofs.Math.Option.{Option, none, some}
 use Rattle.base_definitions.specs.Lists.{map_l, same_bytes}
 use Rattle.signature_sha1_compression.specs.declared.State as words
@@ -17,7 +17,8 @@ use Rattle.store_block.specs.Entry.{Entry, entry}
 use Rattle.store_block.specs.Block.{decode, fit_test, block_test, sum_test}
 use Rattle.store_layout.specs.Store.{size_good, store_good}
 use Rattle.store_layout.specs.Entries.{put_answer, next_of, previous_of}
-use Rattle.store_layout.specs.declared.PutAnswer.TheVariants.{Stored, Full}
+use Rattle.std.specs.Prelude.{Ok, Err}
+use Rattle.store_layout.specs.declared.PutError.TheVariants.{Full}
 use Rattle.access_record.specs.Table as access
 use Rattle.access_record.specs.Table.{table_good, host_table}
 use Rattle.log_binary32.specs.Celsius.{celsius_of}
@@ -29,11 +30,9 @@ use Rattle.protocol.specs.declared.Operation.{Operation}
 use Rattle.protocol.specs.declared.Operation.TheVariants.{Noop, Get, GetVersion, GetNext, GetPrevious, GetKeyRange, Put, Delete, FlushAllData, Setup, GetLog, Security}
 use Rattle.protocol.specs.declared.Permission.{Permission}
 use Rattle.protocol.specs.declared.Choice.{Choice}
-use Rattle.protocol.specs.declared.Asked.{Asked}
-use Rattle.protocol.specs.declared.Asked.TheVariants.{Request, NotBuilt}
 use Rattle.protocol.specs.State.{State, table, accepted}
 use Rattle.protocol.specs.Command.{Header, Scope, Acl, Body, Command, no_body, header_of, range_of, scope_of, acl_of, command_of}
-use Rattle.protocol.specs.Operation.{asked_by, reply_type}
+use Rattle.protocol.specs.Operation.{Asked, asked_by, reply_type}
 use Rattle.protocol.specs.Frame.{more, closes, whole, frame_of}
 use Rattle.protocol.specs.Reading.{envelope, envelope_of, read_message, decodes}
 use Rattle.protocol.specs.Judge.{bare, key_value, range, log, fails, above_last, fault, key_value_in, permitted, entry_of, version_right, new_entry, capacity_of, log_of, visible_in, step10, judge}
@@ -232,15 +231,15 @@ pub record JudgedCodes (s : State) (a : access.Acl) (c : Command) (v : List ℕ)
       → eqb h.cluster_version (table s).cluster_version ≡ true → eqb n s.connection.number ≡ true → above_last q s.connection.last ≡ false
       → judge s a c v ≡ fails s 16
   -- step 7: "messageType is a request built here: else 16."
-  pub not_built : (q : ℕ) (p : Passes s c q) → asked_by p.header.message_type ≡ NotBuilt → judge s a c v ≡ fails (accepted s q) 16
+  pub not_built : (q : ℕ) (p : Passes s c q) → asked_by p.header.message_type ≡ None → judge s a c v ≡ fails (accepted s q) 16
   -- step 8: a code of the tables below
-  pub ill_formed : (q : ℕ) (p : Passes s c q) (x : Choice) → asked_by p.header.message_type ≡ Request x
+  pub ill_formed : (q : ℕ) (p : Passes s c q) (x : Choice) → asked_by p.header.message_type ≡ Some x
       → eqb (fault x.operation c.body v) 0 ≡ false → judge s a c v ≡ fails (accepted s q) (fault x.operation c.body v)
   -- step 9: "Permission: else NOT_AUTHORIZED (3)."
-  pub not_permitted : (q : ℕ) (p : Passes s c q) (x : Choice) → asked_by p.header.message_type ≡ Request x
+  pub not_permitted : (q : ℕ) (p : Passes s c q) (x : Choice) → asked_by p.header.message_type ≡ Some x
       → eqb (fault x.operation c.body v) 0 ≡ true → permitted a s.connection.protected x.permission c.body ≡ false → judge s a c v ≡ fails (accepted s q) 3
   -- step 10: "The operation."
-  pub performed : (q : ℕ) (p : Passes s c q) (x : Choice) → asked_by p.header.message_type ≡ Request x
+  pub performed : (q : ℕ) (p : Passes s c q) (x : Choice) → asked_by p.header.message_type ≡ Some x
       → eqb (fault x.operation c.body v) 0 ≡ true → permitted a s.connection.protected x.permission c.body ≡ true
       → judge s a c v ≡ step10 (accepted s q) a x.operation c.body v
 
@@ -374,15 +373,15 @@ Needs (some p) x = (protected : Bool) (b : Body) → (permitted (holding (p ∷ 
 
 -- what a number asks for is what its row says, "everything else refused"; "Type is the request's minus one"
 pub data Chooses : Asked → Option OperationRow → Type 0 where
-  by_row : (x : Choice) (r : OperationRow) → x.operation ≡ r.operation → reply_type (Request x) ≡ r.response → Needs r.permission x.permission → Chooses (Request x) (some r)
-  else_none : Chooses NotBuilt none
+  by_row : (x : Choice) (r : OperationRow) → x.operation ≡ r.operation → reply_type (Some x) ≡ r.response → Needs r.permission x.permission → Chooses (Some x) (some r)
+  else_none : Chooses None none
 
 pub record OperationTable : Type 0 where
   -- "Match on messageType numbers chooses operation, permission and reply type", for every number
   pub asks : (n : ℕ) → Chooses (asked_by (some n)) (row_of n operations)
   -- an absent one chooses none; "-1 where no built request is read", as a 64-bit word
-  pub asks_none : asked_by none ≡ NotBuilt
-  pub replies_none : reply_type NotBuilt ≡ 18446744073709551615
+  pub asks_none : asked_by none ≡ None
+  pub replies_none : reply_type None ≡ 18446744073709551615
   -- Format: "The one ACL is identity 1, a key from the host, one scope with every permission, cluster version 0."
   pub host : (key : List ℕ) → host_table key
       ≡ record { cluster_version = 0; acls = record { identity = 1; key = key; scopes = access.scope_of 0 [] permissions false ∷ [] } ∷ [] }
@@ -405,9 +404,9 @@ pub record OperationCodes (s : State) (a : access.Acl) (b : Body) (v : List ℕ)
   pub previous_none : previous_of (key_value_in b).key (visible_in s a 0) ≡ none → step10 s a GetPrevious b v ≡ fails s 7
   -- PUT: "else VERSION_MISMATCH (8). A new key that passes this, with no blank block: NO_SPACE (14), and only then."
   pub put_mismatch : version_right (key_value_in b) (entry_of s (key_value_in b).key) ≡ false → step10 s a Put b v ≡ fails s 8
-  pub put_no_space : version_right (key_value_in b) (entry_of s (key_value_in b).key) ≡ true → put_answer s.store (new_entry (key_value_in b) v) ≡ Full
+  pub put_no_space : version_right (key_value_in b) (entry_of s (key_value_in b).key) ≡ true → put_answer s.store (new_entry (key_value_in b) v) ≡ Err Full
       → step10 s a Put b v ≡ fails s 14
-  pub put_stored : version_right (key_value_in b) (entry_of s (key_value_in b).key) ≡ true → put_answer s.store (new_entry (key_value_in b) v) ≡ Stored
+  pub put_stored : version_right (key_value_in b) (entry_of s (key_value_in b).key) ≡ true → put_answer s.store (new_entry (key_value_in b) v) ≡ Ok tt
       → (step10 s a Put b v).code ≡ 1
   -- DELETE: "missing key is NOT_FOUND (7), or SUCCESS with force; version as for PUT."
   pub delete_missing : entry_of s (key_value_in b).key ≡ none → (key_value_in b).force ≡ false → step10 s a Delete b v ≡ fails s 7

@@ -12,27 +12,21 @@ ghost use Rattle.fields_schema.specs.FieldNumbers.{Command-header};
 
 use base_integers::word;
 use fields_schema::field_number::{body, command, header, key_value, status};
-use fields_write_bytes::Maybe;
 
 // What a reply repeats: the identity, the connection's number, the request's sequence if it has one, and the reply's type.
 #[derive(Clone, Copy)]
 pub struct ReplyTo {
     pub identity: i64,
     pub connection: i64,
-    pub sequenced: bool,
-    pub sequence: i64,
+    pub sequence: Option<i64>,
     pub kind: u64,
 }
 
 // The ackSequence of a reply.
-fn ack(reply_to: ReplyTo) -> Maybe
+fn ack(reply_to: ReplyTo) -> Option<u64>
     ensures { maybe result ≡ ack_of reply_to }
 {
-    let sequenced = reply_to.sequenced;
-    if sequenced {
-        return Maybe::Number(word(reply_to.sequence));
-    }
-    Maybe::Nothing
+    reply_to.sequence.map(word)
 }
 
 // The status, the last part of a command.

@@ -10,7 +10,6 @@ ghost use Rattle.reply_envelope.specs.Frames.{auth_bytes, Finished};
 
 use fields_schema::field_number::{hmac_auth, message};
 use protocol::auth_type::HMACAUTH;
-use signature_hmac::Mac;
 
 // The hmac of a text under a key, neither of them too long.
 fn sign(key: &[u8], text: &[u8]) -> [u8; 20]
@@ -18,9 +17,8 @@ fn sign(key: &[u8], text: &[u8]) -> [u8; 20]
     ensures { result ≡ hmac_of key.now text.now }
 {
     match signature_hmac::hmac(key, text) {
-        Mac::Made(s) => signature_sha1::bytes(s),
-        Mac::KeyTooLong => [0; 20],
-        Mac::TextTooLong => [0; 20],
+        Ok(s) => signature_sha1::bytes(s),
+        Err(_) => [0; 20],
     }
 }
 

@@ -1,5 +1,5 @@
 -- The readings of a run of places as messages, and the steps of writing them from the last to the first.
-use Rattle.std.specs.Prelude.{ℕ, ◌+◌, ◌-◌, ◌≤◌, ◌≡◌, Bool, true, false, length}
+use Rattle.std.specs.Prelude.{ℕ, ◌+◌, ◌-◌, ◌≤◌, ◌≡◌, Bool, true, false, length, Some, None}
 use Rattle.std.proofs.Common.{sym, ap₂, ◌∙◌}
 use Rattle.std.proofs.Math.Path.{ap}
 use mathlib.Core.List.{List, [], ◌∷◌}
@@ -10,8 +10,7 @@ use Rattle.fields_encoding.specs.Encode.{head, len_field, float_bytes, fix_field
 use Rattle.fields_write_bytes.specs.Pushed.{Pushed}
 use Rattle.fields_write_bytes.proofs.PushedLaws.{again, pushed_none, pushed-sub}
 use Rattle.fields_write_bytes.proofs.TreePartsLaws.{raw-pushed, each_sub-more, float-none, float-some}
-use Rattle.log_binary32.specs.declared.Sent.{Sent}
-use Rattle.log_binary32.specs.declared.Sent.TheVariants.{Bits, Omitted}
+use Rattle.std.specs.Prelude as code
 use Rattle.log_binary32.specs.Celsius.{sent_bits}
 use Rattle.log_readings.specs.Lent.{Lent, Sample, place_at, places_from, temperature_sample, utilization_sample, sample_of}
 use Rattle.log_readings.specs.LentLaws.{places-none, places-step}
@@ -20,13 +19,13 @@ use Rattle.protocol.specs.Reply.{sample_tree}
 use Rattle.reply_log_sample.specs.Samples.{sample_trees}
 
 -- a value that is sent, and one that is not
-pub sent-omitted : (v : Sent) → v ≡ Omitted → [] ≡ encode (fix_o 2 (map_o float_bytes (sent_bits v)) done)
+pub sent-omitted : (v : code.Option ℕ) → v ≡ None → [] ≡ encode (fix_o 2 (map_o float_bytes (sent_bits v)) done)
 unfolding sent_bits
-sent-omitted v e = float-none 2 (map_o float_bytes (sent_bits v)) (ap (λ (v : Sent). map_o float_bytes (sent_bits v)) e)
+sent-omitted v e = float-none 2 (map_o float_bytes (sent_bits v)) (ap (λ (v : code.Option ℕ). map_o float_bytes (sent_bits v)) e)
 
-pub sent-bits : (b : ℕ) (v : Sent) → v ≡ Bits b → fix_field 2 (float_bytes b) ≡ encode (fix_o 2 (map_o float_bytes (sent_bits v)) done)
+pub sent-bits : (b : ℕ) (v : code.Option ℕ) → v ≡ Some b → fix_field 2 (float_bytes b) ≡ encode (fix_o 2 (map_o float_bytes (sent_bits v)) done)
 unfolding sent_bits
-sent-bits b v e = float-some 2 (float_bytes b) (map_o float_bytes (sent_bits v)) (ap (λ (v : Sent). map_o float_bytes (sent_bits v)) e)
+sent-bits b v e = float-some 2 (float_bytes b) (map_o float_bytes (sent_bits v)) (ap (λ (v : code.Option ℕ). map_o float_bytes (sent_bits v)) e)
 
 -- a reading keeps its name
 pub name-said : (t : Bool) (r : Lent) {name : List ℕ} → name ≡ r.name → name ≡ (sample_of t r).name

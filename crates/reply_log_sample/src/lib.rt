@@ -13,17 +13,16 @@ ghost use Rattle.protocol.specs.Reply.{sample_tree};
 ghost use Rattle.reply_log_sample.specs.Samples.{sample_trees};
 
 use fields_schema::field_number::utilization;
-use log_binary32::Sent;
 
 // The value of a utilization or the current of a temperature, which have one number: a float, if it is sent.
-fn push_sent(out: &mut [u8], at: usize, value: Sent) -> usize
+fn push_sent(out: &mut [u8], at: usize, value: Option<u32>) -> usize
     requires { (9 ≤ at) × (at ≤ length out.old) }
     ensures { Pushed result at (encode (fix_o Utilization-value (map_o float_bytes (sent_bits value)) done))
         out.old out.new × (at ≤ result + 9) }
 {
     match value {
-        Sent::Bits(bits) => fields_write_bytes_field::push_float(out, at, utilization::VALUE, bits),
-        Sent::Omitted => at,
+        Some(bits) => fields_write_bytes_field::push_float(out, at, utilization::VALUE, bits),
+        None => at,
     }
 }
 
@@ -61,10 +60,8 @@ pub fn push_samples(
     ensures { Pushed result at (encode (each_sub n (sample_trees temperature readings.now first count) done))
         out.old out.new × (at ≤ result + 220) }
 {
-    let mut i = count;
     let mut p = at;
-    while 0 < i {
-        i -= 1;
+    for i in (0..count).rev() {
         p = push_sample(out, p, n, readings, first + i, temperature);
     }
     p

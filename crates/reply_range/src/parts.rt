@@ -29,10 +29,8 @@ fn push_keys(out: &mut [u8], at: usize, store: &[u8], places: &[u8], count: usiz
     ensures { Pushed result at (encode (each Range-keys (keys_at (entries_of store.now) (take count places.now)) done))
         out.old out.new × (at ≤ result + 2528) }
 {
-    let mut i = count;
     let mut p = at;
-    while 0 < i {
-        i -= 1;
+    for i in (0..count).rev() {
         p = push_key(out, p, store, wide(places[i]));
     }
     p

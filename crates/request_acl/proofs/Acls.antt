@@ -6,7 +6,7 @@ use mathlib.Core.Bool.{Bool, true, false, ◌&&◌}
 use lib.ListN.{length}
 use lib.Dec.{leb}
 use borrow.Author.Tests.{le-leb, lt-leb}
-use Rattle.fields_schema.specs.Tree.{level, guard, is_some, raw_at}
+use Rattle.fields_schema.specs.Tree.{level, is_some, raw_at}
 use Rattle.fields_decode.specs.Slots.{Tells}
 use Rattle.fields_schema.specs.declared.Kind.TheVariants as kind
 use Rattle.fields_decode.specs.declared.slots.Slots.{Slots}
@@ -17,7 +17,9 @@ use Rattle.access_table_write.specs.Write.{put_scope, put_scopes, put_acl}
 use Rattle.base_integers.specs.Signed.{word_of}
 use Rattle.fields_lookup.specs.Views.{Inside, bytes_at, tree_of, signed_view, SignedIs, PartIs}
 use Rattle.fields_lookup.specs.declared.parts.Part.{Part}
-use Rattle.fields_lookup.specs.declared.parts.Signed.{Signed}
+use Rattle.std.specs.Prelude.{ℤ, Some, None}
+use Rattle.std.specs.Prelude as std
+use mathlib.Core.Option.{some}
 use Rattle.fields_lookup.proofs.Slotted.{length_at}
 use Rattle.protocol.specs.Command.{Scope, Acl}
 use Rattle.protocol.specs.Judge.{permissions_good, acl_read, wanted_scope}
@@ -83,13 +85,13 @@ acl-test a =
     ∙ ap₂ (λ (n : ℕ) (b : Bool). (is_some a.identity && (within 1 64 (length a.key) && (within 1 4 n && b)))) (length-map wanted_scope a.scopes) (sym (scopes-all a.scopes))
 
 -- ---- what was read of an ACL
-pub record AclFacts (s : List ℕ) (p : Part) (identity : Signed) (key : Part) : Type 0 where
+pub record AclFacts (s : List ℕ) (p : Part) (identity : std.Option ℤ) (key : Part) : Type 0 where
   pub place : Inside s key
   pub identity_is : signed_view identity ≡ (acl_in s p).identity
   pub key_is : bytes_at s key ≡ (acl_in s p).key
 
 pub acl-facts : (s : List ℕ) (p : Part) (t : Slots) → StandsAcl s p → Tells kind.Acl (bytes_at s p) t (level kind.Acl (bytes_at s p))
-    → (identity : Signed) → SignedIs t 1 identity → (key : Part) → PartIs s p t 2 key → AclFacts s p identity key
+    → (identity : std.Option ℤ) → SignedIs t 1 identity → (key : Part) → PartIs s p t 2 key → AclFacts s p identity key
 acl-facts s p t y h identity x key v =
     let l = level-at t y h in
     record {
@@ -98,11 +100,11 @@ acl-facts s p t y h identity x key v =
       key_is = v.lies.empty ∙ ap (or_else []) (v.bytes kind.Acl l refl) ∙ or-empty (raw_at 2 (tree_of kind.Acl (bytes_at s p)));
     }
 
-module _ {s : List ℕ} {p : Part} {identity : Signed} {key : Part} (f : AclFacts s p identity key) (out bytes : List ℕ) where
-  pub acl-nameless : identity.has ≡ false → Makes (acl_taken (acl_in s p)) false out bytes
+module _ {s : List ℕ} {p : Part} {identity : std.Option ℤ} {key : Part} (f : AclFacts s p identity key) (out bytes : List ℕ) where
+  pub acl-nameless : identity ≡ None → Makes (acl_taken (acl_in s p)) false out bytes
   acl-nameless e =
       let a = acl_in s p in
-      let n : is_some a.identity ≡ false = ap is_some (sym f.identity_is ∙ ap (λ (b : Bool). guard b (word_of identity.value)) e) in
+      let n : is_some a.identity ≡ false = ap is_some (sym f.identity_is ∙ ap signed_view e) in
       makes-no (acl_taken a) out bytes (acl-test a ∙ ap (λ (b : Bool). (b && (within 1 64 (length a.key) && scopes_taken a.scopes))) n)
 
   key-bad : within 1 64 (length (acl_in s p).key) ≡ false → Makes (acl_taken (acl_in s p)) false out bytes
@@ -119,13 +121,13 @@ module _ {s : List ℕ} {p : Part} {identity : Signed} {key : Part} (f : AclFact
   pub acl-long : 64 < key.len → Makes (acl_taken (acl_in s p)) false out bytes
   acl-long l = key-bad (ap (within 1 64) key-length ∙ ap (◌&&◌ (leb 1 key.len)) (lt-leb key.len 64 l) ∙ both_false (leb 1 key.len))
 
-pub acl-made : {s : List ℕ} {p : Part} {identity : Signed} {key : Part} → AclFacts s p identity key → identity.has ≡ true → 1 ≤ key.len → key.len ≤ 64
-    → (device between out : List ℕ) (place : ℕ) (w : ℕ) (k : List ℕ) (r : Bool) → w ≡ word_of identity.value → k ≡ bytes_at s key → between ≡ put_acl device place w k
+pub acl-made : {s : List ℕ} {p : Part} {identity : ℤ} {key : Part} → AclFacts s p (Some identity) key → 1 ≤ key.len → key.len ≤ 64
+    → (device between out : List ℕ) (place : ℕ) (w : ℕ) (k : List ℕ) (r : Bool) → w ≡ word_of identity → k ≡ bytes_at s key → between ≡ put_acl device place w k
     → Makes (scopes_taken (acl_in s p).scopes) r out (put_scopes between place 0 (map_l wanted_scope (acl_in s p).scopes)) → Makes (acl_taken (acl_in s p)) r out (put_one device place (acl_in s p))
 unfolding put_one
-acl-made {s} {p} {identity} {key} f h low high device between out place x k r u q e m =
+acl-made {s} {p} {identity} {key} f low high device between out place x k r u q e m =
     let a = acl_in s p in
-    let there : guard true (word_of identity.value) ≡ a.identity = ap (λ (b : Bool). guard b (word_of identity.value)) (sym h) ∙ f.identity_is in
+    let there : some (word_of identity) ≡ a.identity = f.identity_is in
     let n : is_some a.identity ≡ true = ap is_some (sym there) in
     let w : within 1 64 (length a.key) ≡ true = ap (within 1 64) (ap length (sym f.key_is) ∙ length_at s key f.place) ∙ ap₂ ◌&&◌ (le-leb 1 key.len low) (le-leb key.len 64 high) in
     let v : x ≡ or_else 0 a.identity = u ∙ ap (or_else 0) there in

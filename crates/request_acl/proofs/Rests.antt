@@ -16,9 +16,11 @@ use Rattle.base_definitions.specs.Lists.{all, within, map_l}
 use Rattle.fields_lookup.specs.Views.{bytes_at, tree_of}
 use Rattle.fields_repeated.specs.Values.{NextPartIs}
 use Rattle.fields_lookup.specs.declared.parts.Part.{Part}
-use Rattle.fields_repeated.specs.declared.NextPart.{NextPart}
+use Rattle.std.specs.Prelude.{Some, None}
+use Rattle.std.specs.Prelude as std
+use Rattle.std.specs.Option.{is_some}
 use Rattle.request_scope.specs.Stands.{Stands}
-use Rattle.request_scope.specs.ScopeLaws.{both_false}
+use Rattle.request_scope.specs.ScopeLaws.{both_false, never}
 use Rattle.request_scope.specs.Rests.{Rest}
 use Rattle.request_scope.specs.RestsLaws.{rest-start, whole_is, rest_end, rest-next, rest_more}
 use Rattle.request_scope.specs.Rests.{coming}
@@ -46,10 +48,10 @@ module _ {A : Type 0} (k : Kind) (num : ℕ) (f : Tree → A) (taken : A → Boo
       }
 
   module _ (put-nil : (l : List ℕ) (n : ℕ) → put l n [] ≡ l) (put-cons : (l : List ℕ) (n : ℕ) (a : A) (as' : List A) → put l n (a ∷ as') ≡ put (one l n a) (n + 1) as')
-      (left : Part) (out : List ℕ) (n : ℕ) (w : Adding left out n) (x : NextPart) (h : NextPartIs s left num x) where
-    module _ (e : x.part.has ≡ false) where
+      (left : Part) (out : List ℕ) (n : ℕ) (w : Adding left out n) where
+    module _ (h : NextPartIs s left num None) where
       nothing : coming k num f s left ≡ []
-      nothing = rest_end k num f s left w.rest x h e
+      nothing = rest_end k num f s left w.rest h
 
       all-taken : all taken whole ≡ true
       unfolding all
@@ -76,40 +78,39 @@ module _ {A : Type 0} (k : Kind) (num : ℕ) (f : Tree → A) (taken : A → Boo
           let l = w.few in
           record { answer = sym (few-taken ∙ ap₂ (λ (a b : Bool). ((a && b) && true)) (le-leb 1 n (omega arith)) (le-leb n most l)); made = λ t. written }
 
-    module _ (e : x.part.has ≡ true) where
-      pub adding-refused : taken (f (tree_of k (bytes_at s x.part))) ≡ false → (o b : List ℕ) → Makes (few_taken most taken whole) false o b
+    module _ (part later : Part) (h : NextPartIs s left num (Some (part, later))) where
+      pub adding-refused : taken (f (tree_of k (bytes_at s part))) ≡ false → (o b : List ℕ) → Makes (few_taken most taken whole) false o b
       unfolding all
       adding-refused t o b =
-          let more = rest_more k num f s left w.rest x h e in
-          let no : all taken whole ≡ false = sym w.judged ∙ ap (all taken) more ∙ ap (λ (b : Bool). (b && all taken (coming k num f s x.rest))) t in
+          let more = rest_more k num f s left w.rest part later h in
+          let no : all taken whole ≡ false = sym w.judged ∙ ap (all taken) more ∙ ap (λ (b : Bool). (b && all taken (coming k num f s later))) t in
           makes-no (few_taken most taken whole) o b (ap (◌&&◌ (within 1 most (length whole))) no ∙ both_false (within 1 most (length whole)))
 
-      pub adding-on : taken (f (tree_of k (bytes_at s x.part))) ≡ true → (o : List ℕ) → o ≡ one out n (f (tree_of k (bytes_at s x.part))) → n < most → Adding x.rest o (n + 1)
+      pub adding-on : taken (f (tree_of k (bytes_at s part))) ≡ true → (o : List ℕ) → o ≡ one out n (f (tree_of k (bytes_at s part))) → n < most → Adding later o (n + 1)
       unfolding all
       adding-on t o q l =
-          let a = f (tree_of k (bytes_at s x.part)) in
-          let more = rest_more k num f s left w.rest x h e in
+          let a = f (tree_of k (bytes_at s part)) in
+          let more = rest_more k num f s left w.rest part later h in
           let c = w.count in
-          let d : length (coming k num f s left) ≡ suc (length (coming k num f s x.rest)) = ap length more in
+          let d : length (coming k num f s left) ≡ suc (length (coming k num f s later)) = ap length more in
           record {
-            rest = rest-next k num f s left w.rest x h e;
-            judged = sym (ap (all taken) more ∙ ap (λ (b : Bool). (b && all taken (coming k num f s x.rest))) t) ∙ w.judged;
+            rest = rest-next k num f s left w.rest part later h;
+            judged = sym (ap (all taken) more ∙ ap (λ (b : Bool). (b && all taken (coming k num f s later))) t) ∙ w.judged;
             count = omega arith;
-            bytes = ap (λ (o : List ℕ). put o (n + 1) (coming k num f s x.rest)) q ∙ sym (put-cons out n a (coming k num f s x.rest)) ∙ ap (put out n) (sym more) ∙ w.bytes;
+            bytes = ap (λ (o : List ℕ). put o (n + 1) (coming k num f s later)) q ∙ sym (put-cons out n a (coming k num f s later)) ∙ ap (put out n) (sym more) ∙ w.bytes;
             few = omega arith;
           }
 
       full-more : most ≤ n → (o b : List ℕ) → Makes (few_taken most taken whole) false o b
       full-more m o b =
-          let more = rest_more k num f s left w.rest x h e in
+          let more = rest_more k num f s left w.rest part later h in
           let c = w.count in
-          let d : length (coming k num f s left) ≡ suc (length (coming k num f s x.rest)) = ap length more in
+          let d : length (coming k num f s left) ≡ suc (length (coming k num f s later)) = ap length more in
           let big : leb (length whole) most ≡ false = lt-leb (length whole) most (omega arith) in
           makes-no (few_taken most taken whole) o b (ap (λ (t : Bool). ((leb 1 (length whole) && t) && all taken whole)) big ∙ ap (λ (t : Bool). (t && all taken whole)) (both_false (leb 1 (length whole))))
 
-    pub adding-end : 1 ≤ most → most ≤ n → Makes (few_taken most taken whole) (not x.part.has) out (put first 0 whole)
-    adding-end o m = go x.part.has refl
-      where
-        go : (b : Bool) → x.part.has ≡ b → Makes (few_taken most taken whole) (not b) out (put first 0 whole)
-        go true e = full-more e m out (put first 0 whole)
-        go false e = full-none e o m
+    pub adding-end : 1 ≤ most → most ≤ n → (o : std.Option (Part × Part)) → NextPartIs s left num o → (r : Bool) → is_some o ≡ not r → Makes (few_taken most taken whole) r out (put first 0 whole)
+    adding-end a m None h true e = full-none h a m
+    adding-end a m None h false e = never e
+    adding-end a m (Some (part, later)) h true e = never (sym e)
+    adding-end a m (Some (part, later)) h false e = full-more part later h m out (put first 0 whole)

@@ -25,11 +25,9 @@ pub fn add_scope_from(s: &[u8], p: Part, device: &mut Record, place: usize, numb
     ensures { Makes (scope_taken (scope_in s.now p)) result device.new
         (put_scope device.old place number (wanted_scope (scope_in s.now p))) }
 {
-    let c = read_scope(s, p);
-    let ok = c.ok;
-    if !ok {
+    let Some(c) = read_scope(s, p) else {
         return false;
-    }
+    };
     let start = c.value.start;
     let end = start + c.value.len;
     add_scope(
@@ -53,21 +51,16 @@ fn add_scopes(s: &[u8], p: Part, device: &mut Record, place: usize) -> bool
         (put_scopes device.old place 0 (map_l wanted_scope (acl_in s.now p).scopes)) }
 {
     let mut left = p;
-    let mut n: usize = 0;
-    while n < 4 {
-        let x = next_part(s, left, acl::SCOPE);
-        let has = x.part.has;
-        if !has {
+    for n in 0..4usize {
+        let Some((part, rest)) = next_part(s, left, acl::SCOPE) else {
             return 0 < n;
-        }
-        if !add_scope_from(s, x.part, device, place, n) {
+        };
+        if !add_scope_from(s, part, device, place, n) {
             return false;
         }
-        left = x.rest;
-        n += 1;
+        left = rest;
     }
-    let y = next_part(s, left, acl::SCOPE);
-    !y.part.has
+    next_part(s, left, acl::SCOPE).is_none()
 }
 
 // The ACL in the part p, judged and written as ACL `place`.
@@ -76,12 +69,10 @@ pub fn add_acl_from(s: &[u8], p: Part, device: &mut Record, place: usize) -> boo
     ensures { Makes (acl_taken (acl_in s.now p)) result device.new (put_one device.old place (acl_in s.now p)) }
 {
     let t = open_at(s, p, Kind::Acl);
-    let identity = signed_of(t, acl::IDENTITY);
     let key = part_of(s, p, t, acl::KEY);
-    let has = identity.has;
-    if !has {
+    let Some(identity) = signed_of(t, acl::IDENTITY) else {
         return false;
-    }
+    };
     if key.len < 1 {
         return false;
     }
@@ -90,6 +81,6 @@ pub fn add_acl_from(s: &[u8], p: Part, device: &mut Record, place: usize) -> boo
     }
     let start = key.start;
     let end = start + key.len;
-    add_acl(device, place, identity.value, &s[start..end]);
+    add_acl(device, place, identity, &s[start..end]);
     add_scopes(s, p, device, place)
 }

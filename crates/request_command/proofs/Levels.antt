@@ -18,7 +18,9 @@ use Rattle.base_definitions.specs.Options.{or_else}
 use Rattle.fields_lookup.specs.Views.{Reads, tree_of, bytes_at, signed_view, part_view, no_part, Lies, After, Merges, Sub}
 use Rattle.fields_lookup.proofs.LevelLaws.{tree_is}
 use Rattle.fields_later.specs.LaterLaws.{signed-later, later-is}
-use Rattle.fields_lookup.specs.declared.parts.Signed.{Signed}
+use Rattle.std.specs.Prelude.{ℤ}
+use Rattle.std.specs.Prelude as std
+use Rattle.std.specs.Option.{option_or}
 use Rattle.fields_lookup.specs.declared.parts.Part.{Part}
 use Rattle.fields_lookup.proofs.Slotted.{sub-view, nil-at, nil-reads}
 use Rattle.protocol.specs.Command as c
@@ -142,9 +144,9 @@ has-later e a = go e.has a.has refl
         same true = refl
         same false = refl
 
-pub bodies-law : (s : List ℕ) (b a : Body) (k1 k2 k3 k6 : Bool) (x : KeyValue) (y : Range) (w : Signed) (q : Part)
+pub bodies-law : (s : List ℕ) (b a : Body) (k1 k2 k3 k6 : Bool) (x : KeyValue) (y : Range) (w : std.Option ℤ) (q : Part)
     → k1 ≡ cond b.keyed true a.keyed → k2 ≡ cond b.ranged true a.ranged → k3 ≡ cond b.changed true a.changed → k6 ≡ cond b.logged true a.logged
-    → Merges (KeyValueIs s) b.entry a.entry x → Merges (RangeIs s) b.range a.range y → w ≡ cond a.cluster.has a.cluster b.cluster → q ≡ cond a.security.has a.security b.security
+    → Merges (KeyValueIs s) b.entry a.entry x → Merges (RangeIs s) b.range a.range y → w ≡ option_or a.cluster b.cluster → q ≡ cond a.security.has a.security b.security
     → Merges (BodyIs s) b a (record { keyed = k1; entry = x; ranged = k2; range = y; changed = k3; cluster = w; logged = k6; security = q })
 bodies-law s b a k1 k2 k3 k6 x y w q e1 e2 e3 e6 f1 f2 f3 f7 t u h g = record {
   keyed = there-join 1 t u b.keyed a.keyed k1 h.keyed g.keyed e1;

@@ -10,8 +10,8 @@ ghost use Rattle.protocol.specs.Reading.{decodes, security_once};
 ghost use Rattle.request_command.specs.Views.{BodyIs, BodyLies, CountIs, Secured, request_view};
 
 use fields_decode::nested::reads;
-use fields_later::{later_part, later_signed};
-use fields_lookup::parts::{Part, Signed, open_at, part_of, sent_twice};
+use fields_later::{later, later_part};
+use fields_lookup::parts::{Part, open_at, part_of, sent_twice};
 use fields_repeated::next_part;
 use fields_schema::Kind;
 use fields_schema::field_number::{body, command};
@@ -27,7 +27,7 @@ pub struct Body {
     pub ranged: bool,
     pub range: Range,
     pub changed: bool,
-    pub cluster: Signed,
+    pub cluster: Option<i64>,
     pub logged: bool,
     pub security: Part,
 }
@@ -44,10 +44,7 @@ pub struct Request {
 fn either(a: bool, b: bool) -> bool
     ensures { result ≡ cond a true b }
 {
-    if a {
-        return true;
-    }
-    b
+    a || b
 }
 
 fn no_body() -> Body
@@ -59,10 +56,7 @@ fn no_body() -> Body
         ranged: false,
         range: no_range(),
         changed: false,
-        cluster: Signed {
-            has: false,
-            value: 0,
-        },
+        cluster: None,
         logged: false,
         security: Part {
             has: false,
@@ -108,7 +102,7 @@ fn merge_bodies(before: Body, after: Body) -> Body
         ranged: either(before.ranged, after.ranged),
         range: merge_ranges(before.range, after.range),
         changed: either(before.changed, after.changed),
-        cluster: later_signed(before.cluster, after.cluster),
+        cluster: later(before.cluster, after.cluster),
         logged: either(before.logged, after.logged),
         security: later_part(before.security, after.security),
     }
@@ -121,14 +115,9 @@ fn read_bodies(s: &[u8], p: Part) -> Body
 {
     let mut left = p;
     let mut b = no_body();
-    while 0 < left.len {
-        let x = next_part(s, left, command::BODY);
-        let has = x.part.has;
-        if !has {
-            return b;
-        }
-        b = merge_bodies(b, read_body(s, x.part));
-        left = x.rest;
+    while let Some((part, rest)) = next_part(s, left, command::BODY) {
+        b = merge_bodies(b, read_body(s, part));
+        left = rest;
     }
     b
 }
@@ -173,14 +162,9 @@ fn all_securities(s: &[u8], p: Part) -> u64
 {
     let mut left = p;
     let mut n = 0;
-    while 0 < left.len {
-        let x = next_part(s, left, command::BODY);
-        let has = x.part.has;
-        if !has {
-            return n;
-        }
-        n = securities(s, x.part, n);
-        left = x.rest;
+    while let Some((part, rest)) = next_part(s, left, command::BODY) {
+        n = securities(s, part, n);
+        left = rest;
     }
     n
 }

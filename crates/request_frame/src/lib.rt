@@ -6,7 +6,7 @@ ghost use Rattle.protocol.specs.Frame.{num4};
 ghost use Rattle.request_frame.specs.Framed.{FramedAs};
 
 // What the input starts with: a proper start of a frame, no frame, or a whole one with the lengths of its message and its value.
-#[derive(Drop)]
+#[derive(Clone, Copy, Debug, PartialEq, Eq)]
 pub enum Framed {
     More,
     Closes,
@@ -14,13 +14,10 @@ pub enum Framed {
 }
 
 // The byte at a place; 0 where none has come.
-fn byte_at(input: &[u8], i: usize) -> usize
-    ensures { (result ≡ get_or input.now i 0) × (result < 256) }
+fn byte_at(input: &[u8], i: usize) -> u8
+    ensures { result ≡ get_or input.now i 0 }
 {
-    if input.len() <= i {
-        return 0;
-    }
-    input[i] as usize
+    input.get(i).copied().unwrap_or(0)
 }
 
 // The four bytes from a place on, the highest first.
@@ -28,10 +25,13 @@ fn length_at(input: &[u8], i: usize) -> usize
     requires { i ≤ 5 }
     ensures { (result ≡ num4 input.now i) × (result < 4294967296) }
 {
-    let a = byte_at(input, i) * 16777216;
-    let b = byte_at(input, i + 1) * 65536;
-    let c = byte_at(input, i + 2) * 256;
-    a + b + c + byte_at(input, i + 3)
+    let bytes = [
+        byte_at(input, i),
+        byte_at(input, i + 1),
+        byte_at(input, i + 2),
+        byte_at(input, i + 3),
+    ];
+    u32::from_be_bytes(bytes) as usize
 }
 
 // How the input is framed.

@@ -1,19 +1,14 @@
 -- The walk over the algorithms of the ACLs.
-use Prim.Native.Nat.{ℕ, ◌≤◌}
-use native.Mathlib.Omega.{arith}
+use Prim.Native.Nat.{ℕ}
 use mathlib.Core.Path.{◌≡◌, refl, sym, ap, ◌∙◌}
 use mathlib.Core.List.{List, [], ◌∷◌}
 use mathlib.Core.Bool.{Bool, true, false, ◌&&◌}
-use lib.ListN.{take, drop}
 use lib.Dec.{eqb}
 use Rattle.fields_schema.specs.declared.Kind.TheVariants as kind
-use Rattle.base_definitions.specs.Lists.{all, map_l}
-use Rattle.fields_lookup.specs.Views.{bytes_at}
-use Rattle.fields_repeated.specs.Values.{parts_in, parts_of, NextPartIs}
-use Rattle.fields_repeated.specs.Repeated.{trees_of}
+use Rattle.base_definitions.specs.Lists.{all}
+use Rattle.fields_repeated.specs.Values.{NextPartIs}
 use Rattle.fields_lookup.specs.declared.parts.Part.{Part}
-use Rattle.fields_repeated.specs.declared.NextPart.{NextPart}
-use Rattle.fields_repeated.proofs.Seeking.{no-values}
+use Rattle.std.specs.Prelude.{Some, None}
 use Rattle.protocol.specs.Command.{Acl, acl_of}
 use Rattle.protocol.specs.Judge.{algorithms_good}
 use Rattle.request_scope.specs.Stands.{StandsSecurity, acl_in, acls_in}
@@ -36,28 +31,16 @@ first-acl : (a : Acl) (acls : List Acl) → algorithms_good (a ∷ acls) ≡ (eq
 unfolding algorithms_good all
 first-acl a acls = refl
 
-empty-part : (s : List ℕ) (left : Part) → left.len ≤ 0 → bytes_at s left ≡ []
-unfolding bytes_at
-empty-part s left h = let z : left.len ≡ 0 = omega arith in ap (λ (n : ℕ). take n (drop left.start s)) z
-
-empty-coming : (s : List ℕ) (left : Part) → left.len ≤ 0 → coming kind.Acl 2 acl_of s left ≡ []
-unfolding map_l
-empty-coming s left h = ap (λ (b : List ℕ). map_l acl_of (trees_of kind.Acl (parts_in 2 b))) (empty-part s left h) ∙ ap (λ v. map_l acl_of (trees_of kind.Acl (parts_of v))) (no-values 2)
-
 module _ {s : List ℕ} {p left : Part} (w : Judging s p left) where
-  pub judging-empty : left.len ≤ 0 → true ≡ algorithms_good (acls_in s p)
-  judging-empty h = sym no-acls ∙ ap algorithms_good (sym (empty-coming s left h)) ∙ w.same
+  pub judging-end : NextPartIs s left 2 None → true ≡ algorithms_good (acls_in s p)
+  judging-end h = sym no-acls ∙ ap algorithms_good (sym (rest_end kind.Acl 2 acl_of s left w.rest h)) ∙ w.same
 
-  module _ (x : NextPart) (h : NextPartIs s left 2 x) where
-    pub judging-end : x.part.has ≡ false → true ≡ algorithms_good (acls_in s p)
-    judging-end e = sym no-acls ∙ ap algorithms_good (sym (rest_end kind.Acl 2 acl_of s left w.rest x h e)) ∙ w.same
+  module _ (part later : Part) (h : NextPartIs s left 2 (Some (part, later))) where
+    next : algorithms_good (coming kind.Acl 2 acl_of s left) ≡ (eqb (acl_in s part).hmac_algorithm 1 && algorithms_good (coming kind.Acl 2 acl_of s later))
+    next = ap algorithms_good (rest_more kind.Acl 2 acl_of s left w.rest part later h) ∙ first-acl (acl_in s part) (coming kind.Acl 2 acl_of s later)
 
-    module _ (e : x.part.has ≡ true) where
-      next : algorithms_good (coming kind.Acl 2 acl_of s left) ≡ (eqb (acl_in s x.part).hmac_algorithm 1 && algorithms_good (coming kind.Acl 2 acl_of s x.rest))
-      next = ap algorithms_good (rest_more kind.Acl 2 acl_of s left w.rest x h e) ∙ first-acl (acl_in s x.part) (coming kind.Acl 2 acl_of s x.rest)
+    pub judging-other : eqb (acl_in s part).hmac_algorithm 1 ≡ false → false ≡ algorithms_good (acls_in s p)
+    judging-other n = sym (next ∙ ap (λ (b : Bool). (b && algorithms_good (coming kind.Acl 2 acl_of s later))) n) ∙ w.same
 
-      pub judging-other : eqb (acl_in s x.part).hmac_algorithm 1 ≡ false → false ≡ algorithms_good (acls_in s p)
-      judging-other n = sym (next ∙ ap (λ (b : Bool). (b && algorithms_good (coming kind.Acl 2 acl_of s x.rest))) n) ∙ w.same
-
-      pub judging-on : eqb (acl_in s x.part).hmac_algorithm 1 ≡ true → Judging s p x.rest
-      judging-on n = record { rest = rest-next kind.Acl 2 acl_of s left w.rest x h e; same = sym (next ∙ ap (λ (b : Bool). (b && algorithms_good (coming kind.Acl 2 acl_of s x.rest))) n) ∙ w.same }
+    pub judging-on : eqb (acl_in s part).hmac_algorithm 1 ≡ true → Judging s p later
+    judging-on n = record { rest = rest-next kind.Acl 2 acl_of s left w.rest part later h; same = sym (next ∙ ap (λ (b : Bool). (b && algorithms_good (coming kind.Acl 2 acl_of s later))) n) ∙ w.same }

@@ -25,16 +25,11 @@ pub fn algorithms_good(s: &[u8], p: Part) -> bool
     ensures { result ≡ algorithms_good (acls_in s.now p) }
 {
     let mut left = p;
-    while 0 < left.len {
-        let x = next_part(s, left, security::ACL);
-        let has = x.part.has;
-        if !has {
-            return true;
-        }
-        if algorithm_of(s, x.part) != 1 {
+    while let Some((part, rest)) = next_part(s, left, security::ACL) {
+        if algorithm_of(s, part) != 1 {
             return false;
         }
-        left = x.rest;
+        left = rest;
     }
     true
 }

@@ -1,14 +1,13 @@
 -- The walk over the types of a GetLog.
-use Prim.Native.Nat.{ℕ, ◌≤◌, ◌<◌}
+use Prim.Native.Nat.{ℕ, ◌<◌}
 use native.Mathlib.Omega.{arith}
 use mathlib.Core.Path.{◌≡◌, refl, sym, ap, ◌∙◌, subst}
 use mathlib.Core.List.{List, [], ◌∷◌, ◌++◌, append_assoc, append-nil}
 use mathlib.Core.Bool.{Bool, true, false, cond}
-use lib.ListN.{take, drop}
 use lib.Dec.{eqb}
 use borrow.Author.Tests.{eqb-true}
 use Rattle.fields_schema.specs.Rules.{names_of}
-use Rattle.fields_schema.specs.Tree.{among, cons_if, ints_at}
+use Rattle.fields_schema.specs.Tree.{among, ints_at}
 use Rattle.fields_schema.proofs.MergedLaws.{ints-join}
 use Rattle.protocol.specs.Command.{types_of}
 use Rattle.fields_schema.specs.declared.Kind.TheVariants as kind
@@ -17,12 +16,11 @@ use Rattle.base_definitions.specs.Bits.{with_bit}
 use Rattle.access_record.specs.Table.{mask_of}
 use Rattle.access_record.proofs.MaskLaws.{mask-more}
 use Rattle.fields_lookup.specs.Views.{Inside, Reads, bytes_at, tree_of, After}
-use Rattle.fields_repeated.specs.Values.{numbers_in, numbers_of, WellFramed, NextNumIs}
+use Rattle.fields_repeated.specs.Values.{numbers_in, WellFramed, NextNumIs}
 use Rattle.fields_repeated.specs.Repeated.{AllAmong}
 use Rattle.fields_repeated.specs.RepeatedLaws.{repeated-named, repeated-among, reads-framed}
 use Rattle.fields_lookup.specs.declared.parts.Part.{Part}
-use Rattle.fields_repeated.specs.declared.NextNum.{NextNum}
-use Rattle.fields_repeated.proofs.Seeking.{no-values}
+use Rattle.std.specs.Prelude.{Some, None}
 use Rattle.request_log_types.specs.Types.{LogTypes}
 
 -- the types so far, and those to come
@@ -45,10 +43,6 @@ walk_start s p before i y =
       split = repeated-named kind.GetLog m y 1 LogType refl;
       set = λ xs e. e ∙ ap mask_of (sym (append-nil xs));
     }
-
-empty-part : (s : List ℕ) (left : Part) → left.len ≤ 0 → bytes_at s left ≡ []
-unfolding bytes_at
-empty-part s left h = let z : left.len ≡ 0 = omega arith in ap (λ (n : ℕ). take n (drop left.start s)) z
 
 -- the named types are below 8
 abbrev Below : List ℕ → Type 0
@@ -74,32 +68,24 @@ module _ {s : List ℕ} {p left : Part} {before mask : ℕ} (w : Walk s p left b
       let q : w.past ≡ ints_at 1 u = sym (w.split ∙ ap (λ (l : List ℕ). w.past ++ l) e ∙ append-nil w.past) in
       record { set = w.set (ints_at 1 t) h.set ∙ ap mask_of (ap (λ (l : List ℕ). ints_at 1 t ++ l) q ∙ sym (ints-join 1 t u)) }
 
-  pub walk-empty : left.len ≤ 0 → After LogTypes before mask (tree_of kind.GetLog (bytes_at s p))
-  walk-empty h = ends (ap (λ (b : List ℕ). numbers_in 1 b) (empty-part s left h) ∙ ap numbers_of (no-values 1))
+  pub walk_end : NextNumIs s left 1 None → After LogTypes before mask (tree_of kind.GetLog (bytes_at s p))
+  walk_end h = ends (h w.framed)
 
-  module _ (x : NextNum) (h : NextNumIs s left 1 x) where
-    next : (b : Bool) → x.num.has ≡ b → numbers_in 1 (bytes_at s left) ≡ cons_if b x.num.value (numbers_in 1 (bytes_at s x.rest))
-    next b e = h.first w.framed ∙ ap (λ (b : Bool). cons_if b x.num.value (numbers_in 1 (bytes_at s x.rest))) e
+  module _ (v : ℕ) (later : Part) (h : NextNumIs s left 1 (Some (v, later))) where
+    all_named : AllAmong (names_of LogType) (v ∷ numbers_in 1 (bytes_at s later))
+    all_named = subst (λ (l : List ℕ). AllAmong (names_of LogType) l) (h.first w.framed) w.named
 
-    pub walk_end : x.num.has ≡ false → After LogTypes before mask (tree_of kind.GetLog (bytes_at s p))
-    walk_end e = ends (next false e ∙ h.last e)
+    pub walk-small : v < 8
+    walk-small = below v all_named.0
 
-    module _ (e : x.num.has ≡ true) where
-      all_named : AllAmong (names_of LogType) (x.num.value ∷ numbers_in 1 (bytes_at s x.rest))
-      all_named = subst (λ (l : List ℕ). AllAmong (names_of LogType) l) (next true e) w.named
-
-      pub walk-small : x.num.value < 8
-      walk-small = below x.num.value all_named.0
-
-      pub walk-on : (m : ℕ) → m ≡ with_bit mask x.num.value → Walk s p x.rest before m
-      walk-on m q =
-          let v = x.num.value in
-          let rest = numbers_in 1 (bytes_at s x.rest) in
-          record {
-            inside = h.inside;
-            framed = h.framed w.framed;
-            named = all_named.1;
-            past = w.past ++ (v ∷ []);
-            split = w.split ∙ ap (λ (l : List ℕ). w.past ++ l) (next true e) ∙ sym (append_assoc w.past (v ∷ []) rest);
-            set = λ xs e. q ∙ ap (λ (k : ℕ). with_bit k v) (w.set xs e) ∙ mask-more (xs ++ w.past) v ∙ ap mask_of (append_assoc xs w.past (v ∷ []));
-          }
+    pub walk-on : (m : ℕ) → m ≡ with_bit mask v → Walk s p later before m
+    walk-on m q =
+        let rest = numbers_in 1 (bytes_at s later) in
+        record {
+          inside = h.inside;
+          framed = h.framed w.framed;
+          named = all_named.1;
+          past = w.past ++ (v ∷ []);
+          split = w.split ∙ ap (λ (l : List ℕ). w.past ++ l) (h.first w.framed) ∙ sym (append_assoc w.past (v ∷ []) rest);
+          set = λ xs e. q ∙ ap (λ (k : ℕ). with_bit k v) (w.set xs e) ∙ mask-more (xs ++ w.past) v ∙ ap mask_of (append_assoc xs w.past (v ∷ []));
+        }

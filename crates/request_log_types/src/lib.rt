@@ -31,14 +31,9 @@ fn types_in(s: &[u8], p: Part, before: u16) -> u16
 {
     let mut left = p;
     let mut mask = before;
-    while 0 < left.len {
-        let x = next_num(s, left, get_log::TYPES);
-        let has = x.num.has;
-        if !has {
-            return mask;
-        }
-        mask = with_bit(mask, x.num.value as u8);
-        left = x.rest;
+    while let Some((value, rest)) = next_num(s, left, get_log::TYPES) {
+        mask = with_bit(mask, value as u8);
+        left = rest;
     }
     mask
 }
@@ -50,14 +45,9 @@ fn logs_in(s: &[u8], p: Part, before: u16) -> u16
 {
     let mut left = p;
     let mut mask = before;
-    while 0 < left.len {
-        let x = next_part(s, left, body::GET_LOG);
-        let has = x.part.has;
-        if !has {
-            return mask;
-        }
-        mask = types_in(s, x.part, mask);
-        left = x.rest;
+    while let Some((part, rest)) = next_part(s, left, body::GET_LOG) {
+        mask = types_in(s, part, mask);
+        left = rest;
     }
     mask
 }
@@ -73,14 +63,9 @@ pub fn log_types(s: &[u8]) -> u16
         len: s.len(),
     };
     let mut mask = 0;
-    while 0 < left.len {
-        let x = next_part(s, left, command::BODY);
-        let has = x.part.has;
-        if !has {
-            return mask;
-        }
-        mask = logs_in(s, x.part, mask);
-        left = x.rest;
+    while let Some((part, rest)) = next_part(s, left, command::BODY) {
+        mask = logs_in(s, part, mask);
+        left = rest;
     }
     mask
 }

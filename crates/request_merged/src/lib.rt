@@ -7,8 +7,8 @@ ghost use Rattle.fields_lookup.specs.Views.{Inside, Only, Reads, bytes_at, tree_
 ghost use Rattle.request_parts.specs.Views.{HeaderIs, KeyValueIs, RangeIs};
 ghost use Rattle.request_merged.specs.Setups.{SetupIs};
 
-use fields_later::later_signed;
-use fields_lookup::parts::{Part, Signed, open_at, signed_of};
+use fields_later::later;
+use fields_lookup::parts::{Part, open_at, signed_of};
 use fields_repeated::next_part;
 use fields_schema::Kind;
 use fields_schema::field_number::{body, command, setup};
@@ -24,14 +24,9 @@ fn read_headers(s: &[u8], p: Part) -> Header
 {
     let mut left = p;
     let mut h = no_header();
-    while 0 < left.len {
-        let x = next_part(s, left, command::HEADER);
-        let has = x.part.has;
-        if !has {
-            return h;
-        }
-        h = merge_headers(h, read_header(s, x.part));
-        left = x.rest;
+    while let Some((part, rest)) = next_part(s, left, command::HEADER) {
+        h = merge_headers(h, read_header(s, part));
+        left = rest;
     }
     h
 }
@@ -59,14 +54,9 @@ fn read_key_values(s: &[u8], p: Part) -> KeyValue
 {
     let mut left = p;
     let mut e = no_key_value();
-    while 0 < left.len {
-        let x = next_part(s, left, body::KEY_VALUE);
-        let has = x.part.has;
-        if !has {
-            return e;
-        }
-        e = merge_key_values(e, read_key_value(s, x.part));
-        left = x.rest;
+    while let Some((part, rest)) = next_part(s, left, body::KEY_VALUE) {
+        e = merge_key_values(e, read_key_value(s, part));
+        left = rest;
     }
     e
 }
@@ -94,14 +84,9 @@ fn read_ranges(s: &[u8], p: Part) -> Range
 {
     let mut left = p;
     let mut g = no_range();
-    while 0 < left.len {
-        let x = next_part(s, left, body::RANGE);
-        let has = x.part.has;
-        if !has {
-            return g;
-        }
-        g = merge_ranges(g, read_range(s, x.part));
-        left = x.rest;
+    while let Some((part, rest)) = next_part(s, left, body::RANGE) {
+        g = merge_ranges(g, read_range(s, part));
+        left = rest;
     }
     g
 }
@@ -122,16 +107,13 @@ pub fn range_in(s: &[u8], p: Part, a: Part, twice: bool) -> Range
     read_range(s, a)
 }
 
-fn no_setup() -> Signed
+fn no_setup() -> Option<i64>
     ensures { SetupIs done result }
 {
-    Signed {
-        has: false,
-        value: 0,
-    }
+    None
 }
 
-fn read_setup(s: &[u8], p: Part) -> Signed
+fn read_setup(s: &[u8], p: Part) -> Option<i64>
     requires { Inside s.now p × Reads (Kind.Setup) (bytes_at s.now p) }
     ensures { SetupIs (tree_of (Kind.Setup) (bytes_at s.now p)) result }
 {
@@ -140,26 +122,21 @@ fn read_setup(s: &[u8], p: Part) -> Signed
 }
 
 // Every setup of the body in the part p.
-fn read_setups(s: &[u8], p: Part) -> Signed
+fn read_setups(s: &[u8], p: Part) -> Option<i64>
     requires { Inside s.now p × Reads (Kind.Body) (bytes_at s.now p) }
     ensures { SetupIs (tree_in (sub_at Body-setup (tree_of (Kind.Body) (bytes_at s.now p)))) result }
 {
     let mut left = p;
     let mut n = no_setup();
-    while 0 < left.len {
-        let x = next_part(s, left, body::SETUP);
-        let has = x.part.has;
-        if !has {
-            return n;
-        }
-        n = later_signed(n, read_setup(s, x.part));
-        left = x.rest;
+    while let Some((part, rest)) = next_part(s, left, body::SETUP) {
+        n = later(n, read_setup(s, part));
+        left = rest;
     }
     n
 }
 
 // The same, where a is the last one, and the only one unless a singular field of the body was sent twice.
-pub fn setup_in(s: &[u8], p: Part, a: Part, twice: bool) -> Signed
+pub fn setup_in(s: &[u8], p: Part, a: Part, twice: bool) -> Option<i64>
     requires { Inside s.now p × Reads (Kind.Body) (bytes_at s.now p)
         × Only (Kind.Setup) s.now a twice (sub_at Body-setup (tree_of (Kind.Body) (bytes_at s.now p))) }
     ensures { SetupIs (tree_in (sub_at Body-setup (tree_of (Kind.Body) (bytes_at s.now p)))) result }

@@ -1,7 +1,7 @@
 // A message by value: what step 1 reads of it.
 #![tactic(auto)]
 
-ghost use Rattle.std.specs.Prelude.{◌≡◌, List, ℕ, false, cond};
+ghost use Rattle.std.specs.Prelude.{◌≡◌, List, ℕ, false, cond, IfSome};
 ghost use Rattle.fields_schema.specs.FieldNumbers.{Message-hmac_auth};
 ghost use Rattle.fields_schema.specs.Tree.{done, sub_at, tree_in};
 ghost use Rattle.fields_lookup.specs.Views.{Inside, Merges, Only, Reads, bytes_at, num_view, tree_of};
@@ -9,8 +9,8 @@ ghost use Rattle.protocol.specs.Reading.{is_one, read_message};
 ghost use Rattle.request_message.specs.Messages.{AuthIs, SealedLies, sealed_view};
 
 use fields_decode::nested::reads;
-use fields_later::{later_part, later_signed};
-use fields_lookup::parts::{Num, Part, Signed, num_of, open_at, part_of, sent_twice, signed_of};
+use fields_later::{later, later_part};
+use fields_lookup::parts::{Part, num_of, open_at, part_of, sent_twice, signed_of};
 use fields_repeated::next_part;
 use fields_schema::Kind;
 use fields_schema::field_number::{hmac_auth, message};
@@ -18,50 +18,35 @@ use protocol::auth_type::HMACAUTH;
 
 #[derive(Drop)]
 pub struct Auth {
-    pub identity: Signed,
+    pub identity: Option<i64>,
     pub hmac: Part,
 }
 
-// ok is false where step 1 refuses the message.
+// What step 1 reads of a message that it does not refuse.
 #[derive(Drop)]
 pub struct Sealed {
-    pub ok: bool,
     pub identity: i64,
     pub hmac: Part,
     pub command: Part,
 }
 
-fn is_one(n: Num) -> bool
+fn is_one(n: Option<u64>) -> bool
     ensures { result ≡ is_one (num_view n) }
 {
-    let has = n.has;
-    if has {
-        return n.value == HMACAUTH;
-    }
-    false
+    n.is_some_and(|v| v == HMACAUTH)
 }
 
-fn all_of(a: bool, b: bool, c: bool, d: bool) -> bool
-    ensures { result ≡ cond a (cond b (cond c d false) false) false }
+fn all_of(a: bool, b: bool, c: bool) -> bool
+    ensures { result ≡ cond a (cond b c false) false }
 {
-    if a {
-        if b {
-            if c {
-                return d;
-            }
-        }
-    }
-    false
+    a && b && c
 }
 
 fn no_auth() -> Auth
     ensures { (s : List ℕ) → AuthIs s done result }
 {
     Auth {
-        identity: Signed {
-            has: false,
-            value: 0,
-        },
+        identity: None,
         hmac: Part {
             has: false,
             start: 0,
@@ -85,7 +70,7 @@ fn merge_auths(before: Auth, after: Auth) -> Auth
     ensures { (s : List ℕ) → Merges (AuthIs s) before after result }
 {
     Auth {
-        identity: later_signed(before.identity, after.identity),
+        identity: later(before.identity, after.identity),
         hmac: later_part(before.hmac, after.hmac),
     }
 }
@@ -97,14 +82,9 @@ fn read_auths(s: &[u8], p: Part) -> Auth
 {
     let mut left = p;
     let mut a = no_auth();
-    while 0 < left.len {
-        let x = next_part(s, left, message::HMAC_AUTH);
-        let has = x.part.has;
-        if !has {
-            return a;
-        }
-        a = merge_auths(a, read_auth(s, x.part));
-        left = x.rest;
+    while let Some((part, rest)) = next_part(s, left, message::HMAC_AUTH) {
+        a = merge_auths(a, read_auth(s, part));
+        left = rest;
     }
     a
 }
@@ -125,53 +105,37 @@ fn auth_in(s: &[u8], p: Part, a: Part, twice: bool) -> Auth
     read_auth(s, a)
 }
 
-fn read_sealed(s: &[u8], p: Part) -> Sealed
+fn read_sealed(s: &[u8], p: Part) -> Option<Sealed>
     requires { Inside s.now p × Reads (Kind.Message) (bytes_at s.now p) }
-    ensures { (sealed_view s.now result ≡ read_message (bytes_at s.now p)) × SealedLies s.now result }
+    ensures { (sealed_view s.now result ≡ read_message (bytes_at s.now p)) × IfSome result (SealedLies s.now) }
 {
     let t = open_at(s, p, Kind::Message);
     let auth_type = num_of(t, message::AUTH_TYPE);
     let a = part_of(s, p, t, message::HMAC_AUTH);
     let command = part_of(s, p, t, message::COMMAND_BYTES);
     let auth = auth_in(s, p, a, sent_twice(t));
-    let identity = auth.identity;
-    let hmac = auth.hmac;
-    let ok = all_of(is_one(auth_type), a.has, identity.has, command.has);
-    Sealed {
-        ok,
-        identity: identity.value,
-        hmac,
+    if !all_of(is_one(auth_type), a.has, command.has) {
+        return None;
+    }
+    let identity = auth.identity?;
+    Some(Sealed {
+        identity,
+        hmac: auth.hmac,
         command,
-    }
-}
-
-fn no_message() -> Sealed
-    ensures { (result.ok ≡ false) × ((s : List ℕ) → SealedLies s result) }
-{
-    let empty = Part {
-        has: false,
-        start: 0,
-        len: 0,
-    };
-    Sealed {
-        ok: false,
-        identity: 0,
-        hmac: empty,
-        command: empty,
-    }
+    })
 }
 
 // Step 1: the identity, the hmac and the commandBytes of a message.
-pub fn read_message(s: &[u8]) -> Sealed
-    ensures { (sealed_view s.now result ≡ read_message s.now) × SealedLies s.now result }
+pub fn read_message(s: &[u8]) -> Option<Sealed>
+    ensures { (sealed_view s.now result ≡ read_message s.now) × IfSome result (SealedLies s.now) }
 {
-    if reads(s, Kind::Message) {
-        let whole = Part {
-            has: true,
-            start: 0,
-            len: s.len(),
-        };
-        return read_sealed(s, whole);
+    if !reads(s, Kind::Message) {
+        return None;
     }
-    no_message()
+    let whole = Part {
+        has: true,
+        start: 0,
+        len: s.len(),
+    };
+    read_sealed(s, whole)
 }

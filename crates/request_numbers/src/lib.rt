@@ -7,34 +7,20 @@ ghost use Rattle.fields_lookup.specs.Views.{num_view, signed_view};
 ghost use Rattle.base_definitions.specs.Options.{or_else};
 ghost use Rattle.protocol.specs.Command.{flag};
 
-use fields_lookup::parts::{Num, Signed};
-
-pub fn number_or(n: Num, absent: u64) -> u64
+pub fn number_or(n: Option<u64>, absent: u64) -> u64
     ensures { result ≡ or_else absent (num_view n) }
 {
-    let has = n.has;
-    if has {
-        return n.value;
-    }
-    absent
+    n.unwrap_or(absent)
 }
 
-pub fn signed_or(n: Signed, absent: i64) -> i64
+pub fn signed_or(n: Option<i64>, absent: i64) -> i64
     ensures { word_of result ≡ or_else (word_of absent) (signed_view n) }
 {
-    let has = n.has;
-    if has {
-        return n.value;
-    }
-    absent
+    n.unwrap_or(absent)
 }
 
-pub fn flag_of(n: Num) -> bool
+pub fn flag_of(n: Option<u64>) -> bool
     ensures { result ≡ flag (num_view n) }
 {
-    let has = n.has;
-    if has {
-        return n.value != 0;
-    }
-    false
+    n.is_some_and(|v| v != 0)
 }

@@ -4,17 +4,17 @@
 ghost use Rattle.fields_lookup.specs.Views.{Inside, Reads, bytes_at, tree_of};
 ghost use Rattle.request_parts.specs.Views.{HeaderIs, KeyValueIs, RangeIs};
 
-use fields_lookup::parts::{Num, Part, Signed, num_of, open_at, part_of, signed_of};
+use fields_lookup::parts::{Part, num_of, open_at, part_of, signed_of};
 use fields_schema::Kind;
 use fields_schema::field_number::{header, key_value, range};
 
 // clusterVersion, connectionID, sequence and messageType.
 #[derive(Clone, Copy)]
 pub struct Header {
-    pub cluster: Signed,
-    pub connection: Signed,
-    pub sequence: Signed,
-    pub kind: Num,
+    pub cluster: Option<i64>,
+    pub connection: Option<i64>,
+    pub sequence: Option<i64>,
+    pub kind: Option<u64>,
 }
 
 // newVersion, key, dbVersion, tag, algorithm, metadataOnly and force.
@@ -24,9 +24,9 @@ pub struct KeyValue {
     pub key: Part,
     pub expected: Part,
     pub tag: Part,
-    pub algorithm: Num,
-    pub metadata: Num,
-    pub force: Num,
+    pub algorithm: Option<u64>,
+    pub metadata: Option<u64>,
+    pub force: Option<u64>,
 }
 
 // startKey, endKey, startInclusive, endInclusive, maxReturned and reverse.
@@ -34,10 +34,10 @@ pub struct KeyValue {
 pub struct Range {
     pub start: Part,
     pub end: Part,
-    pub first: Num,
-    pub last: Num,
-    pub limit: Num,
-    pub reverse: Num,
+    pub first: Option<u64>,
+    pub last: Option<u64>,
+    pub limit: Option<u64>,
+    pub reverse: Option<u64>,
 }
 
 pub fn read_header(s: &[u8], p: Part) -> Header

@@ -5,7 +5,7 @@ ghost use Rattle.std.specs.Prelude.{◌≡◌};
 ghost use Rattle.base_integers.specs.Signed.{word_of};
 ghost use Rattle.access_record.specs.Table.{offset_good};
 ghost use Rattle.request_scope.specs.Stands.{StandsScope, scope_in};
-ghost use Rattle.request_scope.specs.Scope.{no_permissions, PermissionsAre, refused_scope, ScopeIs};
+ghost use Rattle.request_scope.specs.Scope.{PermissionsAre, ScopeIs};
 
 use access_permission_set::{is_permission, with_bit};
 use fields_lookup::parts::{Part, num_of, open_at, part_of, signed_of};
@@ -14,83 +14,46 @@ use fields_schema::Kind;
 use fields_schema::field_number::scope;
 use request_numbers::{flag_of, signed_or};
 
-// Whether the permissions of a scope are good, and if so their set.
-#[derive(Drop)]
-pub struct Permissions {
-    pub ok: bool,
-    pub mask: u16,
-}
-
-fn no_permissions() -> Permissions
-    ensures { result ≡ no_permissions }
-{
-    Permissions { ok: false, mask: 0 }
-}
-
-// The permissions of the scope in the part p.
-pub fn permissions_of(s: &[u8], p: Part) -> Permissions
+// The set of the permissions of the scope in the part p, if they are good.
+pub fn permissions_of(s: &[u8], p: Part) -> Option<u16>
     requires { StandsScope s.now p }
     ensures { PermissionsAre (scope_in s.now p) result }
 {
     let mut left = p;
     let mut mask = 0;
-    let mut n: usize = 0;
-    while n < 10 {
-        let x = next_num(s, left, scope::PERMISSION);
-        let has = x.num.has;
-        if !has {
-            return Permissions { ok: 0 < n, mask };
-        }
-        let v = x.num.value;
+    for n in 0..10usize {
+        let Some((v, rest)) = next_num(s, left, scope::PERMISSION) else {
+            return (0 < n).then_some(mask);
+        };
         if !is_permission(v) {
-            return no_permissions();
+            return None;
         }
         mask = with_bit(mask, v as u8);
-        left = x.rest;
-        n += 1;
+        left = rest;
     }
-    no_permissions()
+    None
 }
 
 // ---- a scope
 
-// A scope that keeps the rules, as the record holds it; ok is false where it breaks one.
+// A scope that keeps the rules, as the record holds it.
 #[derive(Drop)]
 pub struct ReadScope {
-    pub ok: bool,
     pub offset: u8,
     pub mask: u16,
     pub tls: bool,
     pub value: Part,
 }
 
-fn refused_scope(value: Part) -> ReadScope
-    ensures { result ≡ refused_scope value }
-{
-    ReadScope {
-        ok: false,
-        offset: 0,
-        mask: 0,
-        tls: false,
-        value,
-    }
-}
-
 // Is the offset from 0 to 64?
 fn offset_good(offset: i64) -> bool
     ensures { result ≡ offset_good (word_of offset) }
 {
-    if offset < 0 {
-        return false;
-    }
-    if 64 < offset {
-        return false;
-    }
-    true
+    0 <= offset && offset <= 64
 }
 
-// The scope in the part p.
-pub fn read_scope(s: &[u8], p: Part) -> ReadScope
+// The scope in the part p, if it keeps the rules.
+pub fn read_scope(s: &[u8], p: Part) -> Option<ReadScope>
     requires { StandsScope s.now p }
     ensures { ScopeIs s.now (scope_in s.now p) result }
 {
@@ -98,22 +61,17 @@ pub fn read_scope(s: &[u8], p: Part) -> ReadScope
     let value = part_of(s, p, t, scope::VALUE);
     let offset = signed_or(signed_of(t, scope::OFFSET), 0);
     let tls = flag_of(num_of(t, scope::TLS_REQUIRED));
-    let held = permissions_of(s, p);
-    let ok = held.ok;
-    if !ok {
-        return refused_scope(value);
-    }
+    let mask = permissions_of(s, p)?;
     if !offset_good(offset) {
-        return refused_scope(value);
+        return None;
     }
     if 64 < value.len {
-        return refused_scope(value);
+        return None;
     }
-    ReadScope {
-        ok: true,
+    Some(ReadScope {
         offset: offset as u8,
-        mask: held.mask,
+        mask,
         tls,
         value,
-    }
+    })
 }

@@ -25,21 +25,16 @@ fn add_acls(s: &[u8], p: Part, device: &mut Record) -> bool
         (put_acls device.old 0 (map_l wanted_acl (acls_in s.now p))) }
 {
     let mut left = p;
-    let mut n: usize = 0;
-    while n < 8 {
-        let x = next_part(s, left, security::ACL);
-        let has = x.part.has;
-        if !has {
+    for n in 0..8usize {
+        let Some((part, rest)) = next_part(s, left, security::ACL) else {
             return 0 < n;
-        }
-        if !add_acl_from(s, x.part, device, n) {
+        };
+        if !add_acl_from(s, part, device, n) {
             return false;
         }
-        left = x.rest;
-        n += 1;
+        left = rest;
     }
-    let y = next_part(s, left, security::ACL);
-    !y.part.has
+    next_part(s, left, security::ACL).is_none()
 }
 
 // The table that the Security in the part p asks for, judged, and written into the scratch record.

@@ -1,9 +1,9 @@
 -- HMAC as RFC 2104 defines it, with SHA-1. Assumes nothing.
-use Rattle.std.specs.Prelude.{List, [], ◌++◌, map, Bool, false, cond, ℕ, ◌-◌, leb, length, replicate}
+use Rattle.std.specs.Prelude.{Result, Ok, Err, List, [], ◌++◌, map, Bool, false, cond, ℕ, ◌-◌, leb, length, replicate}
 use Rattle.std.specs.Int.Bits.{bit_xor}
 use Rattle.signature_sha1_compression.specs.declared.State.{State}
-use Rattle.signature_hmac.specs.declared.Mac.{Mac}
-use Rattle.signature_hmac.specs.declared.Mac.TheVariants.{Made, KeyTooLong, TextTooLong}
+use Rattle.signature_hmac.specs.declared.MacError.{MacError}
+use Rattle.signature_hmac.specs.declared.MacError.TheVariants.{KeyTooLong, TextTooLong}
 use Rattle.base_definitions.specs.Lists.{same_bytes}
 use Rattle.signature_sha1.specs.Sha1.{sha1_words, sha1, bytes, Answer}
 
@@ -30,11 +30,11 @@ hmac_answer key text =
     (cond (leb (length text) 1048576) (record { number = 0; digest = hmac key text }) (record { number = 2; digest = [] }))
     (record { number = 1; digest = [] })
 
--- the number and the bytes of each case of the enum
-abbrev pub mac_answer : Mac → Answer
-mac_answer (Made s) = record { number = 0; digest = bytes s }
-mac_answer KeyTooLong = record { number = 1; digest = [] }
-mac_answer TextTooLong = record { number = 2; digest = [] }
+-- the number and the bytes of each case of what `hmac` gives
+abbrev pub mac_answer : Result State MacError → Answer
+mac_answer (Ok s) = record { number = 0; digest = bytes s }
+mac_answer (Err KeyTooLong) = record { number = 1; digest = [] }
+mac_answer (Err TextTooLong) = record { number = 2; digest = [] }
 
 -- is `sent` the hmac of a text under a key; no where there is none
 unfoldable pub verified : List ℕ → List ℕ → List ℕ → Bool

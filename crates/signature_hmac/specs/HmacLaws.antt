@@ -1,10 +1,12 @@
 -- What follows of the definitions of `Hmac`. Assumes nothing.
-use Rattle.std.specs.Prelude.{◌≡◌, refl, List, [], Bool, true, false, cond, ℕ, ◌≤◌, eqb, leb, length}
-use Rattle.std.proofs.Common.{sym, le-leb}
+use Rattle.std.specs.Prelude.{◌≡◌, Err, refl, List, [], Bool, true, false, cond, ℕ, ◌≤◌, eqb, leb, length}
+use Rattle.std.proofs.Common.{sym, le-leb, arith}
 use Rattle.signature_sha1_compression.specs.declared.State.{State}
 use Rattle.signature_sha1.specs.Sha1.{be, bytes, Answer}
 use Rattle.base_definitions.specs.Lists.{same_bytes}
-use Rattle.signature_hmac.specs.Hmac.{hmac, hmac_answer, verified}
+use Rattle.signature_hmac.specs.declared.MacError.{MacError}
+use Rattle.signature_hmac.specs.declared.MacError.TheVariants.{KeyTooLong, TextTooLong}
+use Rattle.signature_hmac.specs.Hmac.{hmac, hmac_answer, mac_answer, verified}
 use Rattle.base_definitions.proofs.ListLaws.{same_bytes-self, same_bytes-true}
 
 -- what a verification says, from what the call that makes the hmac answers
@@ -20,6 +22,15 @@ verified-by key text sent a e = rw e (go (leb (length key) 128) (leb (length tex
     go true true = refl
     go true false = refl
     go false t = refl
+
+-- a refusal has a number of its own
+pub refused_number : (e : MacError) → 1 ≤ (mac_answer (Err e)).number
+refused_number KeyTooLong = omega arith
+refused_number TextTooLong = omega arith
+
+pub never-verified : (key text sent : List ℕ) (e : MacError) → mac_answer (Err e) ≡ hmac_answer key text → false ≡ verified key text sent
+never-verified key text sent KeyTooLong h = verified-by key text sent _ h
+never-verified key text sent TextTooLong h = verified-by key text sent _ h
 
 pub bytes-length : (s : State) → length (bytes s) ≡ 20
 unfolding bytes be

@@ -14,10 +14,8 @@ fn key_block(key: &[u8], v: u8) -> [u8; 64]
     ensures { result ≡ masked v key.now }
 {
     let mut b = [v; 64];
-    let mut i = 0;
-    while i < key.len() {
-        b[i] = key[i] ^ v;
-        i += 1;
+    for (i, x) in key.iter().enumerate() {
+        b[i] = *x ^ v;
     }
     b
 }
@@ -33,29 +31,28 @@ fn keyed(key: &[u8], text: &[u8]) -> State
     hash_after(&o, &d)
 }
 
-// What HMAC gives: five words, or none where the key or else the text is too long.
-#[derive(Drop)]
-pub enum Mac {
-    Made(State),
+// Why there is no hmac: the key is too long, or else the text.
+#[derive(Clone, Copy, PartialEq, Eq, Debug)]
+pub enum MacError {
     KeyTooLong,
     TextTooLong,
 }
 
-// HMAC-SHA1 of a text of at most 1,048,576 bytes under a key of at most 128.
-pub fn hmac(key: &[u8], text: &[u8]) -> Mac
+// HMAC-SHA1 of a text of at most 1,048,576 bytes under a key of at most 128, as five words.
+pub fn hmac(key: &[u8], text: &[u8]) -> Result<State, MacError>
     ensures { mac_answer result ≡ hmac_answer key.now text.now }
 {
     if 128 < key.len() {
-        return Mac::KeyTooLong;
+        return Err(MacError::KeyTooLong);
     }
     if 1048576 < text.len() {
-        return Mac::TextTooLong;
+        return Err(MacError::TextTooLong);
     }
     if key.len() <= 64 {
-        return Mac::Made(keyed(key, text));
+        return Ok(keyed(key, text));
     }
     let d = bytes(hash(key));
-    Mac::Made(keyed(&d, text))
+    Ok(keyed(&d, text))
 }
 
 // Whether sent is exactly the twenty bytes of the hmac of a text under a key, all of which are looked at; no where there is none.
@@ -63,11 +60,7 @@ pub fn verify(key: &[u8], text: &[u8], sent: &[u8]) -> bool
     ensures { result ≡ verified key.now text.now sent.now }
 {
     match hmac(key, text) {
-        Mac::Made(s) => {
-            let d = bytes(s);
-            same(&d, sent)
-        }
-        Mac::KeyTooLong => false,
-        Mac::TextTooLong => false,
+        Ok(s) => same(&bytes(s), sent),
+        Err(_) => false,
     }
 }

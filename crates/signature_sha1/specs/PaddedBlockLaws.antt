@@ -72,11 +72,11 @@ pub pasted : (xs : List ℕ) (a : ℕ) → length xs ≤ 64 → paste (replicate
 pasted xs a h =
     ap₂ ◌++◌ (take-length xs) (ap (λ (n : ℕ). drop n (replicate 64 a)) (zero-add (length xs)) ∙ drop-replicate (length xs) 64 a)
 
-pub marked-made : (rest : List ℕ) → length rest < 64 → set (paste (replicate 64 0) 0 rest (length rest)) (length rest) 0x80 ≡ marked_block rest
+pub marked-made : (rest : List ℕ) → length rest < 64 → set (rest ++ drop (length rest) (replicate 64 0)) (length rest) 0x80 ≡ marked_block rest
 unfolding marked_block
 marked-made rest h =
     let e : 64 - length rest ≡ suc (63 - length rest) = omega arith in
-    ap (λ l. set l (length rest) 0x80) (pasted rest 0 (omega arith) ∙ ap (λ (n : ℕ). rest ++ replicate n 0) e)
+    ap (λ z. set (rest ++ z) (length rest) 0x80) (drop-replicate (length rest) 64 0 ∙ ap (λ (n : ℕ). replicate n 0) e)
     ∙ set_at rest 0 (replicate (63 - length rest) 0) 0x80 (length rest) refl
 
 pub sized-made : (b : List ℕ) (n : ℕ) → length b ≡ 64 → paste b 56 (be 8 (8 * n)) 8 ≡ sized_block b n

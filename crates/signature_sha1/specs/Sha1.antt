@@ -1,10 +1,8 @@
 -- SHA-1 as FIPS 180-4 defines it, on words that are numbers below 2^32 and bytes that are numbers below 2^8.
 -- Assumes nothing.
-use Rattle.std.specs.Prelude.{cond, List, [], ◌∷◌, ◌++◌, ℕ, zero, suc, ◌+◌, ◌-◌, ◌*◌, ◌/◌, ◌%◌, ◌^◌, ltb, length, take, drop, replicate}
+use Rattle.std.specs.Prelude.{Option, Some, None, cond, List, [], ◌∷◌, ◌++◌, ℕ, zero, suc, ◌+◌, ◌-◌, ◌*◌, ◌/◌, ◌%◌, ◌^◌, ltb, length, take, drop, replicate}
 use Rattle.signature_sha1_compression.specs.declared.State.{State}
 use Rattle.signature_sha1_compression.specs.Compression.{compress}
-use Rattle.signature_sha1.specs.declared.Digest.{Digest}
-use Rattle.signature_sha1.specs.declared.Digest.TheVariants.{Made, TooLong}
 
 -- block i, counted from 0, of a list of bytes
 unfoldable pub block : List ℕ → ℕ → List ℕ
@@ -59,7 +57,7 @@ pub record Answer : Type 0 where
 unfoldable pub sha1_answer : List ℕ → Answer
 sha1_answer text = cond (ltb (8 * length text) (2 ^ 64)) (record { number = 0; digest = sha1 text }) (record { number = 1; digest = [] })
 
--- the number and the bytes of each case of the enum
-abbrev pub digest_answer : Digest → Answer
-digest_answer (Made s) = record { number = 0; digest = bytes s }
-digest_answer TooLong = record { number = 1; digest = [] }
+-- the number and the bytes of each case of what `sha1` gives
+abbrev pub digest_answer : Option State → Answer
+digest_answer (Some s) = record { number = 0; digest = bytes s }
+digest_answer None = record { number = 1; digest = [] }

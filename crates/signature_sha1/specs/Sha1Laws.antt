@@ -1,7 +1,9 @@
 -- What follows of the definitions of `Sha1`: the padding, and the steps that a loop takes.
 -- Assumes nothing.
 use Rattle.std.specs.Prelude.{◌≡◌, refl, List, [], ◌++◌, ℕ, zero, suc, ◌+◌, ◌-◌, ◌*◌, ◌/◌, ◌%◌, ◌^◌, ◌≤◌, ◌<◌, length, get_or, take, drop}
-use Rattle.std.proofs.Common.{sym, ap, ap₂, ◌∙◌, arith, add-one, length-append, length-drop, drop-drop, take_all, take_at, drop_at, add-zero, add-suc, lt-ltb, le-ltb}
+use Rattle.std.specs.Int.{w32, w64, to_be_bytes}
+use Rattle.std.specs.Simd.{first_chunks}
+use Rattle.std.proofs.Common.{sym, ap, ap₂, ◌∙◌, arith, add-one, length-append, length-take, length-drop, drop-drop, take_all, take_at, drop_at, add-zero, add-suc, lt-ltb, le-ltb}
 use Rattle.std.proofs.lemmas.List.{length-replicate, drop-append-le, take-append-le}
 use Rattle.signature_sha1_compression.specs.declared.State.{State}
 use Rattle.signature_sha1_compression.specs.Compression.{compress}
@@ -112,3 +114,30 @@ taken-up-to text h = rw (lt-ltb (8 * length text) (2 ^ 64) (omega arith))
 pub refused-from : (text : List ℕ) → 2 ^ 61 ≤ length text → sha1_answer text ≡ record { number = 1; digest = [] }
 unfolding sha1_answer
 refused-from text h = rw (le-ltb (8 * length text) (2 ^ 64) (omega arith))
+
+-- the bytes of a word, as the library gives them
+pub bytes_of_word : (v : ℕ) → to_be_bytes w32 v ≡ be 4 v
+unfolding be
+bytes_of_word v = let e : v ≡ v / 1 = omega arith in rw (← e) refl
+
+pub bytes_of_size : (v : ℕ) → to_be_bytes w64 v ≡ be 8 v
+unfolding be
+bytes_of_size v = let e : v ≡ v / 1 = omega arith in rw (← e) refl
+
+-- block i of those that a text is cut into
+pub cut_at : (bs : List ℕ) {blocks : List (List ℕ)} (i : ℕ) → blocks ≡ first_chunks 64 (length bs / 64) bs → i < length bs / 64
+    → get_or blocks i [] ≡ block bs i
+unfolding block
+cut_at bs i e h = ap (λ b. get_or b i []) e ∙ chunk_at bs (length bs / 64) i h
+  where
+    chunk_at : (bs : List ℕ) (k i : ℕ) → i < k → get_or (first_chunks 64 k bs) i [] ≡ block bs i
+    chunk_at bs zero i h = absurd (omega arith)
+    chunk_at bs (suc k) zero h = refl
+    chunk_at bs (suc k) (suc i) h =
+        let e : 64 + 64 * i ≡ 64 * suc i = omega arith in
+        chunk_at (drop 64 bs) k i (omega arith)
+        ∙ ap (take 64) (drop-drop (64 * i) 64 bs ∙ ap (λ (n : ℕ). drop n bs) e)
+
+pub block-length : (bs : List ℕ) (i : ℕ) → i < length bs / 64 → length (block bs i) ≡ 64
+unfolding block
+block-length bs i h = simp (length-take, length-drop) (omega arith)

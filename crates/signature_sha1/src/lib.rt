@@ -12,13 +12,10 @@ fn marked(rest: &[u8]) -> [u8; 64]
     requires { length rest.now < 64 }
     ensures { result ≡ marked_block rest.now }
 {
+    let n = rest.len();
     let mut b = [0u8; 64];
-    let mut i = 0;
-    while i < rest.len() {
-        b[i] = rest[i];
-        i += 1;
-    }
-    b[i] = 0x80;
+    b[..n].copy_from_slice(rest);
+    b[n] = 0x80;
     b
 }
 
@@ -28,11 +25,7 @@ fn sized(block: [u8; 64], n: usize) -> [u8; 64]
     ensures { result ≡ sized_block block n }
 {
     let mut b = block;
-    let mut j = 0;
-    while j < 8 {
-        b[56 + j] = (((8 * n) >> (8 * (7 - j))) % 256) as u8;
-        j += 1;
-    }
+    b[56..].copy_from_slice(&(8 * n).to_be_bytes());
     b
 }
 
@@ -56,44 +49,24 @@ fn finish(h: State, taken: usize, text: &[u8]) -> State
     requires { (taken % 64 ≡ 0) × (taken + length text.now < 2 ^ 61) }
     ensures { result ≡ finished h taken text.now }
 {
-    let count = text.len() / 64;
+    let (blocks, rest) = text.as_chunks::<64>();
     let mut v = h;
-    let mut i = 0;
-    while i < count {
-        let at = 64 * i;
-        let end = at + 64;
-        v = compress(v, &text[at..end]);
-        i += 1;
+    for block in blocks {
+        v = compress(v, block);
     }
-    let at = 64 * count;
-    last(v, &text[at..], taken + text.len())
+    last(v, rest, taken + text.len())
 }
 
 pub fn bytes(s: State) -> [u8; 20]
     ensures { result ≡ bytes_of s }
 {
-    [
-        ((s.a >> 24) % 256) as u8,
-        ((s.a >> 16) % 256) as u8,
-        ((s.a >> 8) % 256) as u8,
-        ((s.a >> 0) % 256) as u8,
-        ((s.b >> 24) % 256) as u8,
-        ((s.b >> 16) % 256) as u8,
-        ((s.b >> 8) % 256) as u8,
-        ((s.b >> 0) % 256) as u8,
-        ((s.c >> 24) % 256) as u8,
-        ((s.c >> 16) % 256) as u8,
-        ((s.c >> 8) % 256) as u8,
-        ((s.c >> 0) % 256) as u8,
-        ((s.d >> 24) % 256) as u8,
-        ((s.d >> 16) % 256) as u8,
-        ((s.d >> 8) % 256) as u8,
-        ((s.d >> 0) % 256) as u8,
-        ((s.e >> 24) % 256) as u8,
-        ((s.e >> 16) % 256) as u8,
-        ((s.e >> 8) % 256) as u8,
-        ((s.e >> 0) % 256) as u8,
-    ]
+    let mut b = [0u8; 20];
+    b[..4].copy_from_slice(&s.a.to_be_bytes());
+    b[4..8].copy_from_slice(&s.b.to_be_bytes());
+    b[8..12].copy_from_slice(&s.c.to_be_bytes());
+    b[12..16].copy_from_slice(&s.d.to_be_bytes());
+    b[16..].copy_from_slice(&s.e.to_be_bytes());
+    b
 }
 
 fn start() -> State
@@ -124,19 +97,12 @@ pub fn hash_after(block: &[u8], text: &[u8]) -> State
     finish(compress(start(), block), 64, text)
 }
 
-// What SHA-1 gives: five words, or none where the text is too long.
-#[derive(Drop)]
-pub enum Digest {
-    Made(State),
-    TooLong,
-}
-
-// SHA-1 of a text of fewer than 2^61 bytes.
-pub fn sha1(text: &[u8]) -> Digest
+// SHA-1 of a text of fewer than 2^61 bytes, as five words; none of a longer one.
+pub fn sha1(text: &[u8]) -> Option<State>
     ensures { digest_answer result ≡ sha1_answer text.now }
 {
-    if text.len() < 2305843009213693952 {
-        return Digest::Made(hash(text));
+    if text.len() < 1 << 61 {
+        return Some(hash(text));
     }
-    Digest::TooLong
+    None
 }

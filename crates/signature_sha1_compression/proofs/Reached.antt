@@ -16,11 +16,11 @@ pub none : (from : ℕ) (w : List ℕ) (s : State) → Reached from from w s w s
 none from w s = record { low = omega arith; high = omega arith; advances = λ m h start. start }
 
 -- one round more, with the value n of its function and the word x that it takes
-pub more : {g : ℕ → ℕ → ℕ → ℕ} {k from t n x : ℕ} {w₀ w w' : List ℕ} {s v r : State} → Twenty g k from → t < from + 20
-    → n ≡ g v.b v.c v.d → TakesWord t w w' x → r ≡ turned n k x v → Reached from t w₀ s w v → Reached from (t + 1) w₀ s w' r
+pub more : {g : ℕ → ℕ → ℕ → ℕ → Type 0} {k from t n x : ℕ} {w₀ w w' : List ℕ} {s v r : State} → Twenty g k from → t < from + 20
+    → g v.b v.c v.d n → TakesWord t w w' x → r ≡ turned n k x v → Reached from t w₀ s w v → Reached from (t + 1) w₀ s w' r
 unfolding step
-more {t = t} {v = v} p l e takes turns so =
-    let function = p.function t v.b v.c v.d so.low l in
+more {t = t} {n = n} {v = v} p l e takes turns so =
+    let function = p.function t v.b v.c v.d n so.low l e in
     let constant = p.constant t so.low l in
     record {
       low = omega arith;
@@ -29,7 +29,7 @@ more {t = t} {v = v} p l e takes turns so =
           let b = so.advances m h start in
           record {
             ring = takes.ring m b.ring;
-            state = turns ∙ rw (e, takes.word m b.ring, ← function, ← constant, b.state, rounds-more);
+            state = turns ∙ rw (function, takes.word m b.ring, ← constant, b.state, rounds-more);
           };
     }
 

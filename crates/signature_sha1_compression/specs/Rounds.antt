@@ -13,8 +13,8 @@ pub record BeforeRound (m : List ℕ) (h : State) (t : ℕ) (w : List ℕ) (s : 
 abbrev pub Advances : ℕ → ℕ → List ℕ → State → List ℕ → State → Type 0
 Advances from to w s w' r = (m : List ℕ) (h : State) → BeforeRound m h from w s → BeforeRound m h to w' r
 
--- the twenty rounds from `from` on are those of the function g and the constant k
-pub record Twenty (g : ℕ → ℕ → ℕ → ℕ) (k from : ℕ) : Type 0 where
+-- the twenty rounds from `from` on are those of the constant k and of a function of which g holds with what it gives of three words
+pub record Twenty (g : ℕ → ℕ → ℕ → ℕ → Type 0) (k from : ℕ) : Type 0 where
   pub low : from ≤ 60
-  pub function : (t x y z : ℕ) → from ≤ t → t < from + 20 → f t x y z ≡ g x y z
+  pub function : (t x y z r : ℕ) → from ≤ t → t < from + 20 → g x y z r → r ≡ f t x y z
   pub constant : (t : ℕ) → from ≤ t → t < from + 20 → K t ≡ k

@@ -2,28 +2,19 @@
 #![tactic(auto)]
 
 ghost use Rattle.std.specs.Prelude.{◌≡◌, ◌+◌, ◌<◌, ◌≤◌, length};
-ghost use Rattle.signature_sha1_compression.specs.Compression.{ROTL, Ch, Parity, Maj, turned};
+ghost use Rattle.signature_sha1_compression.specs.Compression.{Ch, Parity, Maj, turned};
 ghost use Rattle.signature_sha1_compression.specs.Compression.{word as word_at, rounds as rounds_of, compress as compressed};
 ghost use Rattle.signature_sha1_compression.specs.Ring.{Ring, TakesWord};
 ghost use Rattle.signature_sha1_compression.specs.Rounds.{Advances, Twenty};
 
-use base_integers::as_u32::wide;
-
 // The five words of a hash value, and of the working variables.
-#[derive(Clone, Copy)]
+#[derive(Clone, Copy, PartialEq, Eq)]
 pub struct State {
     pub a: u32,
     pub b: u32,
     pub c: u32,
     pub d: u32,
     pub e: u32,
-}
-
-fn rotl(n: u32, x: u32) -> u32
-    requires { (0 < n) × (n < 32) }
-    ensures { result ≡ ROTL n x }
-{
-    (x << n) | (x >> (32 - n))
 }
 
 fn ch(x: u32, y: u32, z: u32) -> u32
@@ -48,13 +39,15 @@ fn maj(x: u32, y: u32, z: u32) -> u32
 fn round(s: State, m: u32, k: u32, w: u32) -> State
     ensures { result ≡ turned m k w s }
 {
-    let n = std::num::wrapping_add_u32(rotl(5, s.a), m);
-    let p = std::num::wrapping_add_u32(n, s.e);
-    let q = std::num::wrapping_add_u32(p, k);
     State {
-        a: std::num::wrapping_add_u32(q, w),
+        a: s.a
+            .rotate_left(5)
+            .wrapping_add(m)
+            .wrapping_add(s.e)
+            .wrapping_add(k)
+            .wrapping_add(w),
         b: s.a,
-        c: rotl(30, s.b),
+        c: s.b.rotate_left(30),
         d: s.c,
         e: s.d,
     }
@@ -64,10 +57,7 @@ fn word(s: &[u8], at: usize) -> u32
     requires { at + 4 ≤ length s.now }
     ensures { result ≡ word_at s.now at }
 {
-    let p = wide(s[at]);
-    let q = wide(s[at + 1]);
-    let r = wide(s[at + 2]);
-    p * 16777216 + q * 65536 + r * 256 + wide(s[at + 3])
+    u32::from_be_bytes([s[at], s[at + 1], s[at + 2], s[at + 3]])
 }
 
 // The first sixteen schedule words of a block: the ring before round 0.
@@ -76,10 +66,8 @@ fn first_words(m: &[u8]) -> [u32; 16]
     ensures { Ring m.now 16 result }
 {
     let mut w = [0u32; 16];
-    let mut t = 0;
-    while t < 16 {
+    for t in 0..16 {
         w[t] = word(m, 4 * t);
-        t += 1;
     }
     w
 }
@@ -91,7 +79,7 @@ fn make_word(w: &mut [u32; 16], t: usize) -> u32
 {
     let oldest = w[(t - 16) % 16];
     let x = w[(t - 3) % 16] ^ w[(t - 8) % 16] ^ w[(t - 14) % 16] ^ oldest;
-    let made = rotl(1, x);
+    let made = x.rotate_left(1);
     w[(t - 16) % 16] = made;
     made
 }
@@ -106,43 +94,21 @@ fn take_word(w: &mut [u32; 16], t: usize) -> u32
     make_word(w, t)
 }
 
-// Rounds 0 to 19.
-fn choice_rounds(w: &mut [u32; 16], s: State) -> State
-    ensures { Advances 0 20 w.old s w.new result }
-{
-    let mut v = s;
-    let mut t = 0;
-    while t < 20 {
-        v = round(v, ch(v.b, v.c, v.d), 0x5a827999, take_word(w, t));
-        t += 1;
-    }
-    v
-}
-
-// The twenty rounds from `from` on, whose constant is k.
-fn parity_rounds(w: &mut [u32; 16], s: State, from: usize, k: u32) -> State
-    requires { Twenty Parity k from }
+// The twenty rounds from `from` on, whose function is g and whose constant is k.
+fn twenty_rounds<F: Fn(u32, u32, u32) -> u32>(
+    w: &mut [u32; 16],
+    s: State,
+    from: usize,
+    g: F,
+    k: u32,
+) -> State
+    requires callable { F.IsAlwaysCallable g }
+    requires rounds { Twenty (λ x y z r. F.post g x y z r) k from }
     ensures { Advances from (from + 20) w.old s w.new result }
 {
-    let end = from + 20;
     let mut v = s;
-    let mut t = from;
-    while t < end {
-        v = round(v, parity(v.b, v.c, v.d), k, take_word(w, t));
-        t += 1;
-    }
-    v
-}
-
-// Rounds 40 to 59.
-fn majority_rounds(w: &mut [u32; 16], s: State) -> State
-    ensures { Advances 40 60 w.old s w.new result }
-{
-    let mut v = s;
-    let mut t = 40;
-    while t < 60 {
-        v = round(v, maj(v.b, v.c, v.d), 0x8f1bbcdc, take_word(w, t));
-        t += 1;
+    for t in from..from + 20 {
+        v = round(v, g(v.b, v.c, v.d), k, take_word(w, t));
     }
     v
 }
@@ -152,10 +118,10 @@ fn rounds(m: &[u8], s: State) -> State
     ensures { result ≡ rounds_of m.now s 80 }
 {
     let mut w = first_words(m);
-    let a = choice_rounds(&mut w, s);
-    let b = parity_rounds(&mut w, a, 20, 0x6ed9eba1);
-    let c = majority_rounds(&mut w, b);
-    parity_rounds(&mut w, c, 60, 0xca62c1d6)
+    let a = twenty_rounds(&mut w, s, 0, ch, 0x5a827999);
+    let b = twenty_rounds(&mut w, a, 20, parity, 0x6ed9eba1);
+    let c = twenty_rounds(&mut w, b, 40, maj, 0x8f1bbcdc);
+    twenty_rounds(&mut w, c, 60, parity, 0xca62c1d6)
 }
 
 pub fn compress(h: State, m: &[u8]) -> State
@@ -164,10 +130,10 @@ pub fn compress(h: State, m: &[u8]) -> State
 {
     let v = rounds(m, h);
     State {
-        a: std::num::wrapping_add_u32(h.a, v.a),
-        b: std::num::wrapping_add_u32(h.b, v.b),
-        c: std::num::wrapping_add_u32(h.c, v.c),
-        d: std::num::wrapping_add_u32(h.d, v.d),
-        e: std::num::wrapping_add_u32(h.e, v.e),
+        a: h.a.wrapping_add(v.a),
+        b: h.b.wrapping_add(v.b),
+        c: h.c.wrapping_add(v.c),
+        d: h.d.wrapping_add(v.d),
+        e: h.e.wrapping_add(v.e),
     }
 }

@@ -44,10 +44,8 @@ fn now_at(x: u8, j: u8, s: u8) -> u8
 fn rename(order: &mut [u8], j: u8, s: u8)
     ensures { Renamed j s order.old order.new }
 {
-    let mut k: usize = 0;
-    while k < order.len() {
-        order[k] = now_at(order[k], j, s);
-        k += 1;
+    for x in order.iter_mut() {
+        *x = now_at(*x, j, s);
     }
 }
 
@@ -69,11 +67,9 @@ pub fn arrange(store: &mut [u8], table: [u8; 128], used: usize)
     ensures { store.new ≡ arranged store.old (take used table) }
 {
     let mut order = table;
-    let mut j: usize = 0;
-    while j < used {
+    for j in 0..used {
         let s = wide(order[j]);
         bring(store, &mut order, j, s);
-        j += 1;
     }
     let a = used * BLOCK_BYTES;
     let n = store.len() - a;

@@ -1,7 +1,6 @@
 -- The block of an entry, document 01, "Blocks": the table of bytes, and the check. Numbers are big-endian.
-use Rattle.std.specs.Prelude.{◌≡◌, Bool, true, false, ◌&&◌, List, [], ◌∷◌, ◌++◌, ℕ, ◌+◌, ◌*◌, ◌/◌, ◌%◌, leb, length, take, drop, get_or, replicate}
-use Rattle.store_block.specs.declared.Order.{Order}
-use Rattle.store_block.specs.declared.Order.TheVariants.{Less, Equal, Greater}
+use Rattle.std.specs.Prelude.{◌≡◌, Bool, ◌&&◌, List, [], ◌∷◌, ◌++◌, ℕ, ◌+◌, ◌*◌, ◌/◌, ◌%◌, leb, length, take, drop, get_or, replicate}
+use Rattle.std.specs.Ordering.{is_eq}
 use Rattle.store_block.specs.Order.{cmp}
 use Rattle.base_definitions.specs.Lists.{fill}
 use Rattle.base_definitions.specs.BigEndian.{be32}
@@ -45,23 +44,13 @@ pub record BlockGood (b : List ℕ) : Type 0 where
   pub fit : Fit (decode b)
   pub same : block (decode b) ≡ b
 
-unfoldable pub is_equal : Order → Bool
-is_equal Less = false
-is_equal Equal = true
-is_equal Greater = false
-
-unfoldable pub is_less : Order → Bool
-is_less Less = true
-is_less Equal = false
-is_less Greater = false
-
 unfoldable pub fit_test : Entry → Bool
 fit_test e =
     leb 1 (length e.key) && (leb (length e.key) 64 && (leb (length e.version) 16 &&
     (leb (length e.tag) 32 && (leb (length e.value) 384 && leb e.algorithm 6))))
 
 unfoldable pub block_test : List ℕ → Bool
-block_test b = fit_test (decode b) && is_equal (cmp (block (decode b)) b)
+block_test b = fit_test (decode b) && is_eq (cmp (block (decode b)) b)
 
 unfoldable pub sum_test : List ℕ → Bool
-sum_test b = is_equal (cmp (drop SUM b) (be32 (sum_from 0 (take SUM b))))
+sum_test b = is_eq (cmp (drop SUM b) (be32 (sum_from 0 (take SUM b))))

@@ -2,13 +2,14 @@
 use Rattle.std.specs.Prelude.{◌≡◌, refl, Bool, true, false, ◌&&◌, List, ℕ, ◌≤◌, leb, eqb, take, drop}
 use Rattle.std.proofs.Common.{sym, ap, ◌∙◌, subst, arith, leb-true, leb-false, eqb-true}
 use Rattle.std.proofs.lemmas.Bool.{eqb-false}
-use Rattle.store_block.specs.declared.Order.{Order}
-use Rattle.store_block.specs.declared.Order.TheVariants.{Less, Equal, Greater}
+use Rattle.std.specs.declared.cmp.Ordering.{Ordering}
+use Rattle.std.specs.declared.cmp.Ordering.TheVariants.{Less, Equal, Greater}
 use Rattle.store_block.specs.Order.{cmp, Below}
 use Rattle.store_block.specs.OrderLaws.{cmp-equal, cmp-refl}
 use Rattle.store_block.specs.Entry.{Entry, Fit}
 use Rattle.base_definitions.specs.BigEndian.{be32}
-use Rattle.store_block.specs.Block.{sum_from, block, SumRight, decode, BlockGood, is_equal, is_less, fit_test, block_test, sum_test}
+use Rattle.std.specs.Ordering.{is_eq, is_lt}
+use Rattle.store_block.specs.Block.{sum_from, block, SumRight, decode, BlockGood, fit_test, block_test, sum_test}
 use Rattle.store_block.specs.Decides.{Decides, DecidesGiven}
 
 pub says-yes : {P : Type 0} → P → Decides true P
@@ -43,20 +44,18 @@ leb-decides m n = record { yes = λ e. leb-true m n e; no = λ e h. let k = leb-
 pub eqb-decides : (m n : ℕ) → Decides (eqb m n) (m ≡ n)
 eqb-decides m n = record { yes = λ e. eqb-true m n e; no = λ e h. eqb-false m n e h }
 
-pub equal-decides : (xs ys : List ℕ) → Decides (is_equal (cmp xs ys)) (xs ≡ ys)
-unfolding is_equal
+pub equal-decides : (xs ys : List ℕ) → Decides (is_eq (cmp xs ys)) (xs ≡ ys)
 equal-decides xs ys = go (cmp xs ys) refl
   where
-    go : (o : Order) → cmp xs ys ≡ o → Decides (is_equal (cmp xs ys)) (xs ≡ ys)
-    go Less e = subst (λ (o : Order). Decides (is_equal o) (xs ≡ ys)) (sym e) (says-no (λ q. let c = sym (ap (cmp xs) q) ∙ cmp-refl xs in let z : ◌≡◌ {A = ℕ} 0 1 = cc in omega arith))
-    go Equal e = subst (λ (o : Order). Decides (is_equal o) (xs ≡ ys)) (sym e) (says-yes (cmp-equal xs ys e))
-    go Greater e = subst (λ (o : Order). Decides (is_equal o) (xs ≡ ys)) (sym e) (says-no (λ q. let c = sym (ap (cmp xs) q) ∙ cmp-refl xs in let z : ◌≡◌ {A = ℕ} 0 1 = cc in omega arith))
+    go : (o : Ordering) → cmp xs ys ≡ o → Decides (is_eq (cmp xs ys)) (xs ≡ ys)
+    go Less e = subst (λ (o : Ordering). Decides (is_eq o) (xs ≡ ys)) (sym e) (says-no (λ q. let c = sym (ap (cmp xs) q) ∙ cmp-refl xs in let z : ◌≡◌ {A = ℕ} 0 1 = cc in omega arith))
+    go Equal e = subst (λ (o : Ordering). Decides (is_eq o) (xs ≡ ys)) (sym e) (says-yes (cmp-equal xs ys e))
+    go Greater e = subst (λ (o : Ordering). Decides (is_eq o) (xs ≡ ys)) (sym e) (says-no (λ q. let c = sym (ap (cmp xs) q) ∙ cmp-refl xs in let z : ◌≡◌ {A = ℕ} 0 1 = cc in omega arith))
 
-pub less-decides : (xs ys : List ℕ) → Decides (is_less (cmp xs ys)) (Below xs ys)
-unfolding is_less
+pub less-decides : (xs ys : List ℕ) → Decides (is_lt (cmp xs ys)) (Below xs ys)
 less-decides xs ys = go (cmp xs ys)
   where
-    go : (o : Order) → Decides (is_less o) (o ≡ Less)
+    go : (o : Ordering) → Decides (is_lt o) (o ≡ Less)
     go Less = says-yes refl
     go Equal = says-no (λ e. let z : ◌≡◌ {A = ℕ} 0 1 = cc in omega arith)
     go Greater = says-no (λ e. let z : ◌≡◌ {A = ℕ} 0 1 = cc in omega arith)

@@ -1,5 +1,5 @@
 -- A block judged where it stands: the head's bytes, zeros in the gaps, the sum.
-use Rattle.std.specs.Prelude.{◌≡◌, List, ℕ, ◌+◌, ◌-◌, ◌*◌, ◌≤◌, ◌<◌, length, take, drop, get_or, replicate}
+use Rattle.std.specs.Prelude.{◌≡◌, List, ℕ, ◌+◌, ◌-◌, ◌*◌, ◌≤◌, ◌<◌, length, take, drop, get_or, replicate, bit_or, fold}
 
 -- the lengths and the algorithm within their limits
 pub record Small (b : List ℕ) : Type 0 where
@@ -31,7 +31,6 @@ pub record Direct (b : List ℕ) (k v t n : ℕ) : Type 0 where
   pub tag : Zero (take (120 - (88 + t)) (drop (88 + t) b))
   pub value : Zero (take (508 - (120 + n)) (drop (120 + n) b))
 
--- the first i bytes ored into o are zeros
-pub record Ored (s : List ℕ) (i o : ℕ) : Type 0 where
-  pub zeros : o ≡ 0 → take i s ≡ replicate i 0
-  pub none : s ≡ replicate (length s) 0 → o ≡ 0
+-- bytes ored into o
+abbrev pub ored : ℕ → List ℕ → ℕ
+ored o s = fold (λ o b. bit_or o b) o s

@@ -1,15 +1,15 @@
 -- A block judged where it stands: the head's bytes, zeros in the gaps, the sum.
 use Rattle.std.specs.Prelude.{◌≡◌, eqb}
 use Rattle.std.proofs.Math.Path.{refl, sym, ap}
-use Rattle.std.proofs.Common.{ap₂, ◌∙◌, subst, add-one, length-take, drop-drop, take-suc, take_all}
+use Rattle.std.proofs.Common.{ap₂, ◌∙◌, subst, length-take, drop-drop, take-suc, take_all}
 use mathlib.Core.List.{List, [], ◌∷◌, ◌++◌, append_assoc}
 use Prim.Native.Nat.{ℕ, zero, suc, ◌+◌, ◌-◌, ◌*◌, ◌/◌, ◌%◌, ◌≤◌, ◌<◌, min}
 use native.Mathlib.Omega.{arith}
 use Rattle.std.specs.Int.Bits.{bit_or, or_add_and}
 use Rattle.std.proofs.lemmas.Nat.{and_le_l, and_le_r}
 use Rattle.std.proofs.Math.ListN.{length, take, drop, get_or, replicate, length-drop, take-append-drop}
-use Rattle.std.proofs.lemmas.List.{get_or-replicate, replicate-append-replicate}
-use Rattle.std.proofs.Math.Seq.{take_at, drop_at, get_or-drop, take-append-add, take-length, length-take-le}
+use Rattle.std.proofs.lemmas.List.{replicate-append-replicate}
+use Rattle.std.proofs.Math.Seq.{take_at, drop_at, get_or-drop, take-append-add, length-take-le}
 use Rattle.store_block.specs.Entry.{Entry, Fit}
 use Rattle.base_definitions.specs.BigEndian.{be32}
 use Rattle.base_definitions.specs.Lists.{fill}
@@ -17,7 +17,7 @@ use Rattle.store_block.specs.Block.{sum_from, head, body, block, SumRight, decod
 use Rattle.store_block.specs.BlockLaws.{sized, length-fill, length-body}
 use Rattle.store_block.specs.Decides.{Decides}
 use Rattle.store_block.specs.DecidesLaws.{decides-by, eqb-decides}
-use Rattle.store_block.specs.Direct.{Small, number_at, Held, Zero, Direct, Ored}
+use Rattle.store_block.specs.Direct.{Small, number_at, Held, Zero, Direct, ored}
 
 module _ (b : List ℕ) (h : length b ≡ 512) where
   lengths : (n m : ℕ) → length (take n (drop m b)) ≡ min n (512 - m)
@@ -246,15 +246,6 @@ module _ (b : List ℕ) (h : length b ≡ 512) (k v t n : ℕ) (p : k ≡ get_or
   pub direct_good : Small b → get_or b 5 0 < 256 → SumRight b → Direct b k v t n → BlockGood b
   direct_good m b5 u d = good-here b h m b5 u (renamed b p q r s d)
 
--- ---- zeros
-pub zeros-more : (s : List ℕ) (i : ℕ) → i < length s → get_or s i 0 ≡ 0 → take i s ≡ replicate i 0 → take (i + 1) s ≡ replicate (i + 1) 0
-zeros-more s i h z q =
-    let t : take (i + 1) s ≡ take i s ++ (get_or s i 0 ∷ []) = rw add-one (take-suc s i 0 h) in
-    t ∙ ap₂ (λ (x : List ℕ) (n : ℕ). x ++ (n ∷ [])) q z ∙ replicate-append-replicate i 1 0
-
-pub zeros-at : (s : List ℕ) (i : ℕ) → i < length s → s ≡ replicate (length s) 0 → get_or s i 0 ≡ 0
-zeros-at s i h q = ap (λ (x : List ℕ). get_or x i 0) q ∙ get_or-replicate (length s) i 0 0 h
-
 -- ---- zeros by or
 or_left : (x y : ℕ) → bit_or x y ≡ 0 → x ≡ 0
 or_left x y e = let s = or_add_and x y in let a = and_le_r x y in omega arith
@@ -265,18 +256,16 @@ or_right x y e = let s = or_add_and x y in let a = and_le_l x y in omega arith
 or-none : (x y : ℕ) → x ≡ 0 → y ≡ 0 → bit_or x y ≡ 0
 or-none x y e f = let s = or_add_and x y in omega arith
 
-pub ored-more : (s : List ℕ) (i o : ℕ) → i < length s → Ored s i o → Ored s (i + 1) (bit_or o (get_or s i 0))
-ored-more s i o h g =
-    record {
-      zeros = λ e. zeros-more s i h (or_right o (get_or s i 0) e) (g.zeros (or_left o (get_or s i 0) e));
-      none = λ z. or-none o (get_or s i 0) (g.none z) (zeros-at s i h z);
-    }
+ored-zeros : (o : ℕ) (s : List ℕ) → ored o s ≡ 0 → (o ≡ 0) × (s ≡ replicate (length s) 0)
+ored-zeros o [] e = (e, refl)
+ored-zeros o (b ∷ s) e =
+    let r = ored-zeros (bit_or o b) s e in
+    (or_left o b r.0, ap₂ (λ (z : ℕ) (zs : List ℕ). z ∷ zs) (or_right o b r.0) r.1)
 
-pub ored-none : (s : List ℕ) → Ored s 0 0
-ored-none s = record { zeros = λ e. refl; none = λ z. refl }
+zeros-ored : (o n : ℕ) → o ≡ 0 → ored o (replicate n 0) ≡ 0
+zeros-ored o zero e = e
+zeros-ored o (suc n) e = zeros-ored (bit_or o 0) n (or-none o 0 e refl)
 
-pub ored-done : (s : List ℕ) (i o : ℕ) → i ≡ length s → Ored s i o → Decides (eqb o 0) (s ≡ replicate (length s) 0)
-ored-done s i o q g =
-    decides-by
-    (λ e. sym (take-length s) ∙ ap (λ (n : ℕ). take n s) (sym q) ∙ g.zeros e ∙ ap (λ (n : ℕ). replicate n 0) q)
-    g.none (eqb-decides o 0)
+pub ored-decides : (s : List ℕ) → Decides (eqb (ored 0 s) 0) (s ≡ replicate (length s) 0)
+ored-decides s =
+    decides-by (λ e. (ored-zeros 0 s e).1) (λ z. ap (ored 0) z ∙ zeros-ored 0 (length s) refl) (eqb-decides (ored 0 s) 0)

@@ -1,6 +1,5 @@
 pub mod Offsets
 pub mod Order
-pub mod Flip
 pub mod OrderLaws
 pub mod Word
 pub mod WordLaws

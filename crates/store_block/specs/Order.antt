@@ -1,10 +1,10 @@
 -- The order of keys, document 01, "Blocks": "every used block's key strictly below the next in byte order, a prefix before the longer key".
 use Rattle.std.specs.Prelude.{◌≡◌, cond, List, [], ◌∷◌, ℕ, ltb}
-use Rattle.store_block.specs.declared.Order.{Order}
-use Rattle.store_block.specs.declared.Order.TheVariants.{Less, Equal, Greater}
+use Rattle.std.specs.declared.cmp.Ordering.{Ordering}
+use Rattle.std.specs.declared.cmp.Ordering.TheVariants.{Less, Equal, Greater}
 
 -- how a key stands to another: by the first byte that differs, else by length
-unfoldable pub cmp : List ℕ → List ℕ → Order
+unfoldable pub cmp : List ℕ → List ℕ → Ordering
 cmp [] [] = Equal
 cmp [] (y ∷ ys) = Less
 cmp (x ∷ xs) [] = Greater

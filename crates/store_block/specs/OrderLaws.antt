@@ -1,10 +1,11 @@
 -- Laws of the order of keys: total, strict and transitive; and the order at an index of both.
-use Rattle.std.specs.Prelude.{◌≡◌, refl, Bool, true, false, List, [], ◌∷◌, ℕ, ◌+◌, ◌≤◌, ◌<◌, ltb, length, drop, get_or}
+use Rattle.std.specs.Prelude.{◌≡◌, refl, Bool, true, false, List, [], ◌∷◌, ℕ, ◌+◌, ◌≤◌, ◌<◌, ltb, length, drop, get_or, min}
 use Rattle.std.proofs.Common.{sym, ap, ◌∙◌, le_antisymm, arith, drop_of_length-le, drop-cons, add-one, lt-ltb, le-ltb, ltb-true, ltb-false}
 use Rattle.std.proofs.Math.Path.{ap₂}
-use Rattle.store_block.specs.declared.Order.TheVariants.{Less, Equal, Greater}
+use Rattle.std.specs.declared.cmp.Ordering.TheVariants.{Less, Equal, Greater}
+use Rattle.std.specs.Ordering.{nat_cmp, ordering_reverse}
+use Rattle.std.specs.Cmp.{nat_cmp_is}
 use Rattle.store_block.specs.Order.{cmp, Below}
-use Rattle.store_block.specs.Flip.{flip}
 
 -- three ways two numbers stand
 pub three {ℓ} : {X : Type ℓ} (x y : ℕ) → (x < y → X) → (y < x → X) → (x ≡ y → X) → X
@@ -47,7 +48,7 @@ cmp-equal (x ∷ xs) (y ∷ ys) e = go (λ p. cmp-equal xs ys p)
         (λ h. absurd (let l : cmp (x ∷ xs) (y ∷ ys) ≡ Greater = cmp-greater x y xs ys h in let z : ◌≡◌ {A = ℕ} 0 1 = cc in omega arith))
         (λ h. ap₂ (λ (a : ℕ) (l : List ℕ). a ∷ l) h (ih (sym (cmp-same x y xs ys h) ∙ e)))
 
-pub cmp-flip : (xs ys : List ℕ) → cmp ys xs ≡ flip (cmp xs ys)
+pub cmp-flip : (xs ys : List ℕ) → cmp ys xs ≡ ordering_reverse (cmp xs ys)
 unfolding cmp
 cmp-flip [] [] = refl
 cmp-flip [] (y ∷ ys) = refl
@@ -55,9 +56,9 @@ cmp-flip (x ∷ xs) [] = refl
 cmp-flip (x ∷ xs) (y ∷ ys) =
     let ih = cmp-flip xs ys in
     three x y
-    (λ h. cmp-greater y x ys xs h ∙ ap flip (sym (cmp-less x y xs ys h)))
-    (λ h. cmp-less y x ys xs h ∙ ap flip (sym (cmp-greater x y xs ys h)))
-    (λ h. cmp-same y x ys xs (sym h) ∙ ih ∙ ap flip (sym (cmp-same x y xs ys h)))
+    (λ h. cmp-greater y x ys xs h ∙ ap ordering_reverse (sym (cmp-less x y xs ys h)))
+    (λ h. cmp-less y x ys xs h ∙ ap ordering_reverse (sym (cmp-greater x y xs ys h)))
+    (λ h. cmp-same y x ys xs (sym h) ∙ ih ∙ ap ordering_reverse (sym (cmp-same x y xs ys h)))
 
 pub below-trans : (xs ys zs : List ℕ) → Below xs ys → Below ys zs → Below xs zs
 unfolding cmp
@@ -104,3 +105,18 @@ module _ (a b : List ℕ) (i : ℕ) where
   pub both_end : length a ≤ i → length b ≤ i → cmp (drop i a) (drop i b) ≡ Equal
   unfolding cmp
   both_end h k = ap₂ cmp (drop_of_length-le a h) (drop_of_length-le b k)
+
+  -- by the order of the bytes there, where they differ, and where one ends by that of the lengths
+  pub at_differ : i < length a → i < length b → (get_or a i 0 ≡ get_or b i 0 → ⊥) → nat_cmp (get_or a i 0) (get_or b i 0) ≡ cmp (drop i a) (drop i b)
+  at_differ h k n =
+      three (get_or a i 0) (get_or b i 0)
+      (λ l. sym (nat_cmp_is _ _ Less l) ∙ sym (at_less h k l))
+      (λ l. sym (nat_cmp_is _ _ Greater l) ∙ sym (at_greater h k l))
+      (λ l. absurd (n l))
+
+  pub at_end : i ≡ min (length a) (length b) → nat_cmp (length a) (length b) ≡ cmp (drop i a) (drop i b)
+  at_end e =
+      three (length a) (length b)
+      (λ l. sym (nat_cmp_is _ _ Less l) ∙ sym (a-ends (omega arith) (omega arith)))
+      (λ l. sym (nat_cmp_is _ _ Greater l) ∙ sym (b-ends (omega arith) (omega arith)))
+      (λ l. sym (nat_cmp_is _ _ Equal l) ∙ sym (both_end (omega arith) (omega arith)))

@@ -1,8 +1,10 @@
 -- Bytes written over others, and the laws by which loops of stores write them.
-use Rattle.std.specs.Prelude.{◌≡◌, List, [], ◌∷◌, ◌++◌, ℕ, suc, ◌+◌, ◌-◌, ◌≤◌, ◌<◌, length, take, drop, set, get_or, replicate}
-use Rattle.std.proofs.Common.{sym, ap, ap₂, ◌∙◌, append_assoc, append-nil, arith, add-one, length-append, length-take, length-drop, take-append-drop, drop_of_length-le, take-suc, length-take-le, take_at, drop_at, drop-drop, drop-cons, take-take, get_or-take, get_or-drop, get_or-append-add}
-use Rattle.std.proofs.lemmas.List.{length-replicate, replicate-append-replicate, set_at, take-append-le}
+use Rattle.std.specs.Prelude.{◌≡◌, List, [], ◌∷◌, ◌++◌, ℕ, suc, ◌+◌, ◌-◌, ◌≤◌, ◌<◌, length, take, drop, set, get_or}
+use Rattle.std.proofs.Common.{sym, ap, ap₂, ◌∙◌, append_assoc, append-nil, arith, length-append, length-take, length-drop, take-append-drop, drop_of_length-le, take-suc, length-take-le, take_at, drop_at, drop-drop, drop-cons, take-take, get_or-take, get_or-drop, get_or-append-add}
+use Rattle.std.proofs.lemmas.List.{set_at, take-append-le}
 use Rattle.std.proofs.Math.ListN.{get_or-append}
+use borrow.Rule.Slice.PartMut.{put_mid}
+use lib.Seq.{paste}
 use Rattle.store_block.specs.Over.{over}
 
 pub length_over : (l : List ℕ) (a : ℕ) (bs : List ℕ) → a + length bs ≤ length l → length (over l a bs) ≡ length l
@@ -39,12 +41,16 @@ over-front l a v xs h =
     ∙ set_at (take a l) (get_or l a 0) (xs ++ drop (suc a + length xs) l) v a (length-take-le a l (omega arith))
     ∙ ap (λ (n : ℕ). take a l ++ (v ∷ (xs ++ drop n l))) end
 
--- one byte more of a list that is being copied
-pub over-copy : (l : List ℕ) (a i : ℕ) (src : List ℕ) → i < length src → a + length src ≤ length l
-    → set (over l a (take i src)) (a + i) (get_or src i 0) ≡ over l a (take (i + 1) src)
-over-copy l a i src h k =
-    let n : length (take i src) ≡ i = length-take-le i src (omega arith) in
-    over-more l a i (get_or src i 0) (take i src) n (omega arith) ∙ ap (over l a) (sym (rw add-one (take-suc src i 0 h)))
+-- a part of a slice written, and a part moved
+pub over-part : (l : List ℕ) (a k : ℕ) (xs ys : List ℕ) → ys ≡ xs → k ≡ length xs → put_mid a k l ys ≡ over l a xs
+unfolding over
+over-part l a k xs ys e n = ap₂ (λ (y z : List ℕ). take a l ++ (y ++ z)) e (drop-drop k a l ∙ ap (λ (m : ℕ). drop (a + m) l) n)
+
+pub over-paste : (l : List ℕ) (a n : ℕ) (xs : List ℕ) → n ≤ length xs → paste l a xs n ≡ over l a (take n xs)
+unfolding over
+over-paste l a n xs h =
+    append_assoc (take a l) (take n xs) (drop (a + n) l)
+    ∙ ap (λ (m : ℕ). take a l ++ (take n xs ++ drop (a + m) l)) (sym (length-take-le n xs h))
 
 -- bytes written behind others, and in front of others, are one run
 pub over-after : (l : List ℕ) (a m : ℕ) (xs ys : List ℕ) → length xs ≡ m → a + m + length ys ≤ length l → over (over l a xs) (a + m) ys ≡ over l a (xs ++ ys)
@@ -91,13 +97,6 @@ over-high l a p xs h k =
     ∙ get_or-append-add (take a l ++ xs) (drop (a + length xs) l) (p - (a + length xs)) 0
     ∙ get_or-drop (a + length xs) l (p - (a + length xs)) 0
     ∙ ap (λ (y : ℕ). get_or l y 0) z
-
--- one zero more
-pub zero_more : (l m : List ℕ) (a j : ℕ) → a + j < length l → m ≡ over l a (replicate j 0) → set m (a + j) 0 ≡ over l a (replicate (j + 1) 0)
-zero_more l m a j h q =
-    ap (λ (x : List ℕ). set x (a + j) 0) q
-    ∙ over-more l a j 0 (replicate j 0) (length-replicate j 0) h
-    ∙ ap (over l a) (replicate-append-replicate j 1 0)
 
 -- as many bytes over all
 pub over-all : (l xs : List ℕ) → length xs ≡ length l → over l 0 xs ≡ xs

@@ -1,12 +1,15 @@
 -- Bytes read as one big-endian number stand to each other as that number does.
-use Rattle.std.specs.Prelude.{◌≡◌, List, length, drop}
-use Rattle.std.proofs.Math.Path.{ap}
+use Rattle.std.specs.Prelude.{◌≡◌, List, [], ◌∷◌, length, drop}
+use Rattle.std.specs.Int.{w32, from_be_bytes}
+use Rattle.std.proofs.Math.Path.{sym, ap}
 use Rattle.std.proofs.Common.{◌∙◌, mul-le-mul, add-mul}
 use Prim.Native.Nat.{ℕ, zero, suc, ◌+◌, ◌*◌, ◌^◌, ◌≤◌, ◌<◌}
 use native.Mathlib.Omega.{arith}
 use Rattle.std.proofs.Math.Nat.{pow-succ'}
 use Rattle.std.proofs.Math.ListN.{get_or}
-use Rattle.store_block.specs.declared.Order.TheVariants.{Less, Greater}
+use Rattle.std.specs.declared.cmp.Ordering.TheVariants.{Less, Greater}
+use Rattle.std.specs.Ordering.{nat_cmp}
+use Rattle.std.specs.Cmp.{nat_cmp_is}
 use Rattle.store_block.specs.Order.{cmp}
 use Rattle.store_block.specs.OrderLaws.{three, at_less, at_greater, at_same}
 use Rattle.store_block.specs.Word.{word_at, Bytes}
@@ -70,11 +73,19 @@ module _ (a b : List ℕ) (ba : Bytes a) (bb : Bytes b) where
           let e : get_or a i 0 * 256 ^ k ≡ get_or b i 0 * 256 ^ k = ap (λ (x : ℕ). x * 256 ^ k) q in
           at_same a b i (omega arith) (omega arith) q ∙ ih (omega arith) ∙ ap (λ (n : ℕ). cmp (drop n a) (drop n b)) z)
 
--- four bytes, as the code adds them up
-pub word-four : (l : List ℕ) (i a b c d : ℕ) → a ≡ get_or l i 0 → b ≡ get_or l (i + 1) 0 → c ≡ get_or l (i + 2) 0 → d ≡ get_or l (i + 3) 0
-    → a * 16777216 + b * 65536 + c * 256 + d ≡ word_at 4 l i
+  -- by the order of the numbers, where they differ
+  pub word-order : (k i : ℕ) → i + k ≤ length a → i + k ≤ length b → (word_at k a i ≡ word_at k b i → ⊥)
+      → nat_cmp (word_at k a i) (word_at k b i) ≡ cmp (drop i a) (drop i b)
+  word-order k i h j n =
+      three (word_at k a i) (word_at k b i)
+      (λ q. sym (nat_cmp_is _ _ Less q) ∙ sym (word-less k i h j q))
+      (λ q. sym (nat_cmp_is _ _ Greater q) ∙ sym (word-greater k i h j q))
+      (λ q. absurd (n q))
+
+-- four bytes as the library reads them
+pub word-four : (l : List ℕ) (i : ℕ) → from_be_bytes w32 (get_or l i 0 ∷ get_or l (i + 1) 0 ∷ get_or l (i + 2) 0 ∷ get_or l (i + 3) 0 ∷ []) ≡ word_at 4 l i
 unfolding word_at
-word-four l i a b c d p0 p1 p2 p3 =
+word-four l i =
     let q2 : get_or l (i + 1 + 1) 0 ≡ get_or l (i + 2) 0 = let z : i + 1 + 1 ≡ i + 2 = omega arith in ap (λ (m : ℕ). get_or l m 0) z in
     let q3 : get_or l (i + 1 + 1 + 1) 0 ≡ get_or l (i + 3) 0 = let z : i + 1 + 1 + 1 ≡ i + 3 = omega arith in ap (λ (m : ℕ). get_or l m 0) z in
     omega arith

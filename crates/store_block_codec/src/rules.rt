@@ -50,8 +50,5 @@ pub fn good(b: &[u8]) -> bool
     requires { length b.now ≡ 512 }
     ensures { Decides result (BlockGood b.now) }
 {
-    if !rules_kept(b) {
-        return false;
-    }
-    sum_right(b)
+    rules_kept(b) && sum_right(b)
 }

@@ -16,23 +16,9 @@ pub fn limits(b: &[u8]) -> bool
     ensures { Decides result (Small b.now) }
 {
     let n = wide(b[VALUE_LENGTH]) * 256 + wide(b[VALUE_LENGTH_LOW]);
-    if b[KEY_LENGTH] < 1 {
-        return false;
-    }
-    if 64 < b[KEY_LENGTH] {
-        return false;
-    }
-    if 16 < b[VERSION_LENGTH] {
-        return false;
-    }
-    if 32 < b[TAG_LENGTH] {
-        return false;
-    }
-    if 384 < n {
-        return false;
-    }
-    if 6 < b[ALGORITHM] {
-        return false;
-    }
-    true
+    (1..=64).contains(&b[KEY_LENGTH])
+        && b[VERSION_LENGTH] <= 16
+        && b[TAG_LENGTH] <= 32
+        && n <= 384
+        && b[ALGORITHM] <= 6
 }

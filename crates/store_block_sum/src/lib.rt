@@ -43,12 +43,10 @@ fn columns(b: &[u8]) -> [u16; 128]
     ensures { Columns b.now 64 result }
 {
     let mut c = [0u16; 128];
-    let mut k: usize = 0;
-    while k < 64 {
+    for k in 0..64 {
         let x = column(b, k);
         c[k] = x.all;
         c[k + 64] = x.rows;
-        k += 1;
     }
     c
 }
@@ -69,10 +67,8 @@ pub fn sum(b: &[u8]) -> u64
 {
     let c = columns(b);
     let mut s: u32 = 0;
-    let mut k: usize = 0;
-    while k < 64 {
+    for k in 0..64 {
         s += (c[k] as u32) * ((k + 1) as u32) + (c[k + 64] as u32) * 64;
-        k += 1;
     }
     (s as usize - last(b)) as u64
 }

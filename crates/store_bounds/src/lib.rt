@@ -6,15 +6,14 @@ ghost use Rattle.store_layout.specs.Store.{entries_of, Good};
 ghost use Rattle.store_layout.specs.Entries.{below, up_to};
 
 use store_find::find;
-use store_layout::KeyPlace;
 
 // The first place at or above a bound: how many keys are strictly below it.
 pub fn first_from(store: &[u8], bound: &[u8]) -> usize
     ensures { Good store.now → result ≡ below bound.now (entries_of store.now) }
 {
     match find(store, bound) {
-        KeyPlace::At(i) => i,
-        KeyPlace::Gap(i) => i,
+        Ok(i) => i,
+        Err(i) => i,
     }
 }
 
@@ -23,7 +22,7 @@ pub fn first_above(store: &[u8], bound: &[u8]) -> usize
     ensures { Good store.now → result ≡ up_to bound.now (entries_of store.now) }
 {
     match find(store, bound) {
-        KeyPlace::At(i) => i + 1,
-        KeyPlace::Gap(i) => i,
+        Ok(i) => i + 1,
+        Err(i) => i,
     }
 }

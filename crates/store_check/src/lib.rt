@@ -6,7 +6,7 @@ ghost use Rattle.store_block.specs.Decides.{Decides};
 ghost use Rattle.store_layout.specs.Store.{blocks_in, store_good};
 ghost use Rattle.store_layout.specs.Check.{GoodFrom};
 
-use store_block::Order;
+use std::cmp::Ordering;
 use store_block::offsets::{BLOCK_BYTES, KEY};
 
 // Whether whole blocks meet every block rule, used ones first and their keys ascending.
@@ -15,11 +15,9 @@ fn blocks_good(store: &[u8]) -> bool
     ensures { Decides result (GoodFrom [] store.now (blocks_in store.now)) }
 {
     let n = store.len() / BLOCK_BYTES;
-    let mut i: usize = 0;
-    let mut a: usize = 0;
-    let mut p: usize = 0;
-    let mut q: usize = 0;
-    while i < n {
+    let mut last = &store[0..0];
+    for i in 0..n {
+        let a = i * BLOCK_BYTES;
         if store[a] == 0 {
             return store_block::zeros(&store[a..]);
         }
@@ -29,15 +27,13 @@ fn blocks_good(store: &[u8]) -> bool
         }
         let ks = a + KEY;
         let ke = ks + base_integers::as_usize::wide(store[a + 1]);
-        match store_block::compare(&store[p..q], &store[ks..ke]) {
-            Order::Less => {}
-            Order::Equal => return false,
-            Order::Greater => return false,
+        let key = &store[ks..ke];
+        match store_block::compare(last, key) {
+            Ordering::Less => {}
+            Ordering::Equal => return false,
+            Ordering::Greater => return false,
         }
-        p = ks;
-        q = ke;
-        i += 1;
-        a += BLOCK_BYTES;
+        last = key;
     }
     true
 }

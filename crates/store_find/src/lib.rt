@@ -4,32 +4,29 @@
 ghost use Rattle.std.specs.Prelude.{◌≡◌};
 ghost use Rattle.store_layout.specs.Entries.{Sought, EntryAt, no_parts};
 
-use store_block::Order;
+use std::cmp::Ordering;
 use store_block::offsets::{BLOCK_BYTES, KEY, TAG, VALUE, VERSION};
-use store_layout::{EntryPart, KeyPlace, Parts};
+use store_layout::{EntryPart, Parts};
 
-// The place of a key, or where it would go.
-pub fn find(store: &[u8], key: &[u8]) -> KeyPlace
+// The place of a key, or as an error where it would go, as a binary search answers.
+pub fn find(store: &[u8], key: &[u8]) -> Result<usize, usize>
     ensures { Sought store.now key.now result }
 {
     let n = store.len() / BLOCK_BYTES;
-    let mut i: usize = 0;
-    let mut a: usize = 0;
-    while i < n {
+    for i in 0..n {
+        let a = i * BLOCK_BYTES;
         if store[a] == 0 {
-            return KeyPlace::Gap(i);
+            return Err(i);
         }
         let s = a + KEY;
         let e = s + base_integers::as_usize::wide(store[a + 1]);
         match store_block::compare(key, &store[s..e]) {
-            Order::Less => return KeyPlace::Gap(i),
-            Order::Equal => return KeyPlace::At(i),
-            Order::Greater => {}
+            Ordering::Less => return Err(i),
+            Ordering::Equal => return Ok(i),
+            Ordering::Greater => {}
         }
-        i += 1;
-        a += BLOCK_BYTES;
     }
-    KeyPlace::Gap(i)
+    Err(n)
 }
 
 // Where the parts of the entry at a place lie; empty parts where there is none.

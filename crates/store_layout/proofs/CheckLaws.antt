@@ -3,11 +3,12 @@ use Rattle.std.specs.Prelude.{◌≡◌, refl, Bool, true, false, ◌&&◌, List
 use Rattle.std.proofs.Common.{sym, ap, ap₂, ◌∙◌, subst, subst₂, append-nil, append_assoc, not-suc-le-zero, le_of_suc-le-suc, arith, length-drop, take-append-drop, take_at, drop_at, get_or-drop, drop-drop, take_all, eqb-true}
 use Rattle.std.proofs.lemmas.List.{length-replicate}
 use Rattle.std.proofs.lemmas.Bool.{eqb-false}
-use Rattle.store_block.specs.declared.Order.{Order}
-use Rattle.store_block.specs.declared.Order.TheVariants.{Less, Equal, Greater}
+use Rattle.std.specs.declared.cmp.Ordering.{Ordering}
+use Rattle.std.specs.declared.cmp.Ordering.TheVariants.{Less, Equal, Greater}
 use Rattle.store_block.specs.Order.{cmp, Below}
 use Rattle.store_block.specs.Entry.{Entry, Fit}
-use Rattle.store_block.specs.Block.{block, decode, BlockGood, is_equal, is_less, block_test}
+use Rattle.std.specs.Ordering.{is_eq, is_lt}
+use Rattle.store_block.specs.Block.{block, decode, BlockGood, block_test}
 use Rattle.store_block.specs.BlockLaws.{sized, decode-block, length-block}
 use Rattle.store_block.specs.Decides.{Decides}
 use Rattle.store_block.specs.DecidesLaws.{decides-by, agree, both-decides, leb-decides, eqb-decides, equal-decides, less-decides, block-decides}
@@ -139,10 +140,10 @@ blank-decides r k l n i a h e q z d =
     let d' : Decides r (drop a l ≡ replicate (length (drop a l)) 0) = subst (λ (x : List ℕ). Decides r (x ≡ replicate (length x) 0)) all d in
     decides-by (λ p. blank-out k (drop a l) (n - i) len p) (λ g. blank-in k (drop a l) (n - i) (first-at l a ∙ z) (omega arith) g) d'
 
-pub less-not-equal : (o : Order) → o ≡ Less → o ≡ Equal → ⊥
+pub less-not-equal : (o : Ordering) → o ≡ Less → o ≡ Equal → ⊥
 less-not-equal o p q = let z : ◌≡◌ {A = ℕ} 0 1 = cc in omega arith
 
-pub less_not_greater : (o : Order) → o ≡ Less → o ≡ Greater → ⊥
+pub less_not_greater : (o : Ordering) → o ≡ Less → o ≡ Greater → ⊥
 less_not_greater o p q = let z : ◌≡◌ {A = ℕ} 0 1 = cc in omega arith
 
 from-length : (k l : List ℕ) (n : ℕ) → GoodFrom k l n → length l ≡ n * 512
@@ -155,8 +156,8 @@ from-decides (suc n) k l = go (eqb (get_or l 0 0) 0) refl (from-decides n (decod
   where
     go : (b : Bool) → eqb (get_or l 0 0) 0 ≡ b → Decides (good_from n (decode l).key (drop 512 l)) (GoodFrom (decode l).key (drop 512 l) n)
         → Decides (elim b [
-          | true ↦ (eqb (length l) (suc n * 512) && is_equal (cmp l (replicate (length l) 0)))
-          | false ↦ (block_test (take 512 l) && (is_less (cmp k (decode l).key) && good_from n (decode l).key (drop 512 l)))
+          | true ↦ (eqb (length l) (suc n * 512) && is_eq (cmp l (replicate (length l) 0)))
+          | false ↦ (block_test (take 512 l) && (is_lt (cmp k (decode l).key) && good_from n (decode l).key (drop 512 l)))
         ]) (GoodFrom k l (suc n))
     go true e ih =
         let z : get_or l 0 0 ≡ 0 = eqb-true (get_or l 0 0) 0 e in

@@ -1,64 +1,63 @@
 -- Laws of the operations on entries: they keep them fit and in order; the place of a key tells the rest.
-use Rattle.std.specs.Prelude.{◌≡◌, refl, List, [], ◌∷◌, ℕ, suc, ◌+◌, ◌≤◌, length}
+use Rattle.std.specs.Prelude.{◌≡◌, refl, List, [], ◌∷◌, ℕ, suc, ◌+◌, ◌≤◌, length, Result, Ok, Err}
 use Rattle.std.proofs.Common.{sym, ap, ◌∙◌, subst, arith}
-use Rattle.store_block.specs.declared.Order.{Order}
-use Rattle.store_block.specs.declared.Order.TheVariants.{Less, Equal, Greater}
+use Rattle.std.specs.declared.cmp.Ordering.{Ordering}
+use Rattle.std.specs.declared.cmp.Ordering.TheVariants.{Less, Equal, Greater}
 use Rattle.store_block.specs.Order.{cmp, Below}
 use Rattle.store_block.specs.OrderLaws.{cmp-equal, cmp-flip, below-trans}
-use Rattle.store_block.specs.Flip.{flip}
+use Rattle.std.specs.Ordering.{ordering_reverse}
 use Rattle.store_block.specs.Entry.{Entry, Fit}
-use Rattle.store_layout.specs.declared.KeyPlace.TheVariants.{At, Gap}
 use Rattle.store_layout.specs.Store.{AllFit, none, more, Above, Sorted}
 use Rattle.store_layout.specs.Entries.{by_order, find_from, place_of, past_of, below, up_to, put_entry, remove_entry}
 use Rattle.store_layout.specs.Places.{InGap, IsAt}
 
-pub by_less {ℓ} : {X : Type ℓ} (o : Order) (a b c d : X) → o ≡ Less → by_order o a b c ≡ d → a ≡ d
+pub by_less {ℓ} : {X : Type ℓ} (o : Ordering) (a b c d : X) → o ≡ Less → by_order o a b c ≡ d → a ≡ d
 unfolding by_order
-by_less o a b c d e h = sym (ap (λ (o : Order). by_order o a b c) e) ∙ h
+by_less o a b c d e h = sym (ap (λ (o : Ordering). by_order o a b c) e) ∙ h
 
-pub by_equal {ℓ} : {X : Type ℓ} (o : Order) (a b c d : X) → o ≡ Equal → by_order o a b c ≡ d → b ≡ d
+pub by_equal {ℓ} : {X : Type ℓ} (o : Ordering) (a b c d : X) → o ≡ Equal → by_order o a b c ≡ d → b ≡ d
 unfolding by_order
-by_equal o a b c d e h = sym (ap (λ (o : Order). by_order o a b c) e) ∙ h
+by_equal o a b c d e h = sym (ap (λ (o : Ordering). by_order o a b c) e) ∙ h
 
-pub by-greater {ℓ} : {X : Type ℓ} (o : Order) (a b c d : X) → o ≡ Greater → by_order o a b c ≡ d → c ≡ d
+pub by-greater {ℓ} : {X : Type ℓ} (o : Ordering) (a b c d : X) → o ≡ Greater → by_order o a b c ≡ d → c ≡ d
 unfolding by_order
-by-greater o a b c d e h = sym (ap (λ (o : Order). by_order o a b c) e) ∙ h
+by-greater o a b c d e h = sym (ap (λ (o : Ordering). by_order o a b c) e) ∙ h
 
-pub is-less {ℓ} : {X : Type ℓ} (o : Order) (a b c : X) → o ≡ Less → by_order o a b c ≡ a
+pub is-less {ℓ} : {X : Type ℓ} (o : Ordering) (a b c : X) → o ≡ Less → by_order o a b c ≡ a
 is-less o a b c e = sym (by_less o a b c (by_order o a b c) e refl)
 
-pub is-equal {ℓ} : {X : Type ℓ} (o : Order) (a b c : X) → o ≡ Equal → by_order o a b c ≡ b
+pub is-equal {ℓ} : {X : Type ℓ} (o : Ordering) (a b c : X) → o ≡ Equal → by_order o a b c ≡ b
 is-equal o a b c e = sym (by_equal o a b c (by_order o a b c) e refl)
 
-pub is_greater {ℓ} : {X : Type ℓ} (o : Order) (a b c : X) → o ≡ Greater → by_order o a b c ≡ c
+pub is_greater {ℓ} : {X : Type ℓ} (o : Ordering) (a b c : X) → o ≡ Greater → by_order o a b c ≡ c
 is_greater o a b c e = sym (by-greater o a b c (by_order o a b c) e refl)
 
-never : {X : Type 0} (i j : ℕ) → Gap i ≡ At j → X
+never : {X : Type 0} (i j : ℕ) → Err i ≡ Ok j → X
 never i j e = absurd (let z : ◌≡◌ {A = ℕ} 0 1 = cc in omega arith)
 
-gap-inj : (i j : ℕ) → Gap i ≡ Gap j → i ≡ j
+gap-inj : (i j : ℕ) → ◌≡◌ {A = Result ℕ ℕ} (Err i) (Err j) → i ≡ j
 gap-inj i j e = cc
 
-at-inj : (i j : ℕ) → At i ≡ At j → i ≡ j
+at-inj : (i j : ℕ) → ◌≡◌ {A = Result ℕ ℕ} (Ok i) (Ok j) → i ≡ j
 at-inj i j e = cc
 
 -- by the three ways that two keys stand
 pub by-order {ℓ} : {X : Type ℓ} (k l : List ℕ) → (cmp k l ≡ Less → X) → (cmp k l ≡ Equal → X) → (cmp k l ≡ Greater → X) → X
 by-order {X = X} k l f g h = go (cmp k l) refl
   where
-    go : (o : Order) → cmp k l ≡ o → X
+    go : (o : Ordering) → cmp k l ≡ o → X
     go Less e = f e
     go Equal e = g e
     go Greater e = h e
 
 -- ---- what a search says of the entries with one put in or taken out
 
-pub in-gap : (j i : ℕ) (e : Entry) (es : List Entry) → find_from j e.key es ≡ Gap i → InGap j i e es
+pub in-gap : (j i : ℕ) (e : Entry) (es : List Entry) → find_from j e.key es ≡ Err i → InGap j i e es
 unfolding find_from put_entry remove_entry
 in-gap j i e [] h = record { off = 0; place = let g = gap-inj j i h in omega arith; within = omega arith; put = refl; removed = refl }
 in-gap j i e (x ∷ xs) h = go (λ p. in-gap (j + 1) i e xs p)
   where
-    go : (find_from (j + 1) e.key xs ≡ Gap i → InGap (j + 1) i e xs) → InGap j i e (x ∷ xs)
+    go : (find_from (j + 1) e.key xs ≡ Err i → InGap (j + 1) i e xs) → InGap j i e (x ∷ xs)
     go ih =
         by-order e.key x.key
         (λ q.
@@ -76,12 +75,12 @@ in-gap j i e (x ∷ xs) h = go (λ p. in-gap (j + 1) i e xs p)
           removed = is_greater _ _ _ _ q ∙ ap (λ (l : List Entry). x ∷ l) r.removed;
         })
 
-pub is_at : (j i : ℕ) (e : Entry) (es : List Entry) → find_from j e.key es ≡ At i → IsAt j i e es
+pub is_at : (j i : ℕ) (e : Entry) (es : List Entry) → find_from j e.key es ≡ Ok i → IsAt j i e es
 unfolding find_from put_entry remove_entry
 is_at j i e [] h = never j i h
 is_at j i e (x ∷ xs) h = go (λ p. is_at (j + 1) i e xs p)
   where
-    go : (find_from (j + 1) e.key xs ≡ At i → IsAt (j + 1) i e xs) → IsAt j i e (x ∷ xs)
+    go : (find_from (j + 1) e.key xs ≡ Ok i → IsAt (j + 1) i e xs) → IsAt j i e (x ∷ xs)
     go ih =
         by-order e.key x.key
         (λ q. never j i (by_less _ _ _ _ _ q h))
@@ -101,8 +100,8 @@ is_at j i e (x ∷ xs) h = go (λ p. is_at (j + 1) i e xs p)
 
 -- ---- entries stay fit and in order
 
-turned : (k l : List ℕ) (o : Order) → cmp k l ≡ o → cmp l k ≡ flip o
-turned k l o q = cmp-flip k l ∙ ap flip q
+turned : (k l : List ℕ) (o : Ordering) → cmp k l ≡ o → cmp l k ≡ ordering_reverse o
+turned k l o q = cmp-flip k l ∙ ap ordering_reverse q
 
 pub put-above : (k : List ℕ) (e : Entry) (es : List Entry) → Below k e.key → Above k es → Above k (put_entry e es)
 unfolding put_entry

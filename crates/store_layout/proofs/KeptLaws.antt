@@ -1,5 +1,5 @@
 -- After any of the calls a good store is good, as long as it was, and holds the entries that the call's name says.
-use Rattle.std.specs.Prelude.{◌≡◌, Bool, true, false, cond, ℕ, suc, ◌-◌, ◌*◌, ◌≤◌, replicate}
+use Rattle.std.specs.Prelude.{◌≡◌, Bool, true, false, cond, ℕ, suc, ◌-◌, ◌*◌, ◌≤◌, replicate, Result, Ok, Err}
 use Rattle.std.proofs.Math.Path.{refl}
 use Rattle.std.proofs.Common.{sym, ap, ap₂, ◌∙◌, subst, length-append, length-take, length-drop, ltb-true}
 use mathlib.Core.List.{List, []}
@@ -9,10 +9,8 @@ use Rattle.std.proofs.lemmas.List.{length-replicate}
 use Rattle.store_block.specs.Entry.{Entry, Fit}
 use Rattle.store_block.specs.Block.{fit_test}
 use Rattle.store_block.specs.DecidesLaws.{agree, says-yes, fit-decides}
-use Rattle.store_layout.specs.declared.KeyPlace.{KeyPlace}
-use Rattle.store_layout.specs.declared.KeyPlace.TheVariants.{At, Gap}
-use Rattle.store_layout.specs.declared.PutAnswer.{PutAnswer}
-use Rattle.store_layout.specs.declared.PutAnswer.TheVariants.{Stored, Full, Unfit}
+use Rattle.store_layout.specs.Entries.{PutAnswer}
+use Rattle.store_layout.specs.declared.PutError.TheVariants.{Full, Unfit}
 use Rattle.store_layout.specs.Store.{blocks_in, blocks, bytes_of, entries_of, Good, none}
 use Rattle.store_layout.specs.Entries.{find_in, put_entry, remove_entry, roomy, has_room, put_answer, when_stored, put_store, delete_store}
 use Rattle.store_layout.proofs.StoreLaws.{room, good-bytes, entries-bytes, length-bytes}
@@ -21,46 +19,46 @@ use Rattle.store_layout.proofs.EntriesLaws.{in-gap, is_at, put-sorted, put_fit, 
 use Rattle.store_layout.specs.After.{After}
 
 -- an entry that fits is never Unfit: there is room for it, or the store is full
-pub fit-answer : (l : List ℕ) (e : Entry) → Fit e → put_answer l e ≡ cond (has_room l e) Stored Full
+pub fit-answer : (l : List ℕ) (e : Entry) → Fit e → put_answer l e ≡ cond (has_room l e) (Ok tt) (Err Full)
 unfolding put_answer
-fit-answer l e f = ap (λ (x : Bool). cond x (cond (has_room l e) Stored Full) Unfit) (agree (fit_test e) true (fit-decides e) (says-yes f))
+fit-answer l e f = ap (λ (x : Bool). cond x (cond (has_room l e) (Ok tt) (Err Full)) (Err Unfit)) (agree (fit_test e) true (fit-decides e) (says-yes f))
 
-stored-fit : (l : List ℕ) (e : Entry) → put_answer l e ≡ Stored → Fit e
+stored-fit : (l : List ℕ) (e : Entry) → put_answer l e ≡ Ok tt → Fit e
 unfolding put_answer
 stored-fit l e q = go (fit_test e) refl
   where
     go : (b : Bool) → fit_test e ≡ b → Fit e
     go true h = (fit-decides e).yes h
-    go false h = absurd (let a = sym (ap (λ (x : Bool). cond x (cond (has_room l e) Stored Full) Unfit) h) ∙ q in let z : ◌≡◌ {A = ℕ} 0 1 = cc in omega arith)
+    go false h = absurd (let a = sym (ap (λ (x : Bool). cond x (cond (has_room l e) (Ok tt) (Err Full)) (Err Unfit)) h) ∙ q in let z : ◌≡◌ {A = ℕ} 0 1 = cc in omega arith)
 
-stored-room : (l : List ℕ) (e : Entry) → put_answer l e ≡ Stored → has_room l e ≡ true
+stored-room : (l : List ℕ) (e : Entry) → put_answer l e ≡ Ok tt → has_room l e ≡ true
 unfolding put_answer
 stored-room l e q = go (fit_test e) refl (has_room l e) refl
   where
     go : (a : Bool) → fit_test e ≡ a → (b : Bool) → has_room l e ≡ b → has_room l e ≡ true
     go a h true k = k
-    go true h false k = absurd (let a = sym (ap₂ (λ (x y : Bool). cond x (cond y Stored Full) Unfit) h k) ∙ q in let z : ◌≡◌ {A = ℕ} 0 1 = cc in omega arith)
-    go false h false k = absurd (let a = sym (ap (λ (x : Bool). cond x (cond (has_room l e) Stored Full) Unfit) h) ∙ q in let z : ◌≡◌ {A = ℕ} 0 1 = cc in omega arith)
+    go true h false k = absurd (let a = sym (ap₂ (λ (x y : Bool). cond x (cond y (Ok tt) (Err Full)) (Err Unfit)) h k) ∙ q in let z : ◌≡◌ {A = ℕ} 0 1 = cc in omega arith)
+    go false h false k = absurd (let a = sym (ap (λ (x : Bool). cond x (cond (has_room l e) (Ok tt) (Err Full)) (Err Unfit)) h) ∙ q in let z : ◌≡◌ {A = ℕ} 0 1 = cc in omega arith)
 
 -- with room, the entries with one put in are no more than the blocks
 put-room : (l : List ℕ) (e : Entry) → has_room l e ≡ true → length (put_entry e (entries_of l)) ≤ blocks_in l
 unfolding has_room roomy find_in
 put-room l e h = go (find_in e.key (entries_of l)) refl
   where
-    go : (o : KeyPlace) → find_in e.key (entries_of l) ≡ o → length (put_entry e (entries_of l)) ≤ blocks_in l
-    go (At i) q =
+    go : (o : Result ℕ ℕ) → find_in e.key (entries_of l) ≡ o → length (put_entry e (entries_of l)) ≤ blocks_in l
+    go (Ok i) q =
         let r = is_at 0 i e (entries_of l) q in
         let w = r.within in
         let m : length (replace_at r.off e (entries_of l)) ≡ length (entries_of l) = simp (length-append, length-take, length-drop) (omega arith) in
         let p = ap length r.put ∙ m in
         let k = room l in
         omega arith
-    go (Gap i) q =
+    go (Err i) q =
         let r = in-gap 0 i e (entries_of l) q in
         let w = r.within in
         let m : length (insert_at r.off e (entries_of l)) ≡ suc (length (entries_of l)) = simp (length-append, length-take, length-drop) (omega arith) in
         let p = ap length r.put ∙ m in
-        let k = ltb-true (length (entries_of l)) (blocks_in l) (sym (ap (λ (o : KeyPlace). roomy o (length (entries_of l)) (blocks_in l)) q) ∙ h) in
+        let k = ltb-true (length (entries_of l)) (blocks_in l) (sym (ap (λ (o : Result ℕ ℕ). roomy o (length (entries_of l)) (blocks_in l)) q) ∙ h) in
         omega arith
 
 module _ (l : List ℕ) (g : Good l) where
@@ -73,7 +71,7 @@ module _ (l : List ℕ) (g : Good l) where
       }
 
   -- where put answers Stored
-  pub put-kept : (e : Entry) → put_answer l e ≡ Stored → After l (put_store l e) (put_entry e (entries_of l))
+  pub put-kept : (e : Entry) → put_answer l e ≡ Ok tt → After l (put_store l e) (put_entry e (entries_of l))
   unfolding put_store when_stored
   put-kept e q =
       let f = stored-fit l e q in
@@ -86,14 +84,14 @@ module _ (l : List ℕ) (g : Good l) where
       (length-bytes (put_entry e (entries_of l)) (blocks_in l) fs n)
 
   -- and where it answers Full or Unfit
-  pub put_same : (e : Entry) → (put_answer l e ≡ Stored → ⊥) → put_store l e ≡ l
+  pub put_same : (e : Entry) → (put_answer l e ≡ Ok tt → ⊥) → put_store l e ≡ l
   unfolding put_store when_stored
   put_same e n = go (put_answer l e) n
     where
-      go : (a : PutAnswer) → (a ≡ Stored → ⊥) → when_stored a (bytes_of (blocks_in l) (put_entry e (entries_of l))) l ≡ l
-      go Stored h = absurd (h refl)
-      go Full h = refl
-      go Unfit h = refl
+      go : (a : PutAnswer) → (a ≡ Ok tt → ⊥) → when_stored a (bytes_of (blocks_in l) (put_entry e (entries_of l))) l ≡ l
+      go (Ok tt) h = absurd (h refl)
+      go (Err Full) h = refl
+      go (Err Unfit) h = refl
 
   pub delete-kept : (k : List ℕ) → After l (delete_store l k) (remove_entry k (entries_of l))
   unfolding delete_store

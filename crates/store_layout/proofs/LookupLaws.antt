@@ -1,13 +1,12 @@
 -- The entry under a key: what it is, that the search finds it, and what put and remove do to it.
-use Rattle.std.specs.Prelude.{◌≡◌, refl, List, [], ◌∷◌, ℕ, zero, suc, ◌+◌, ◌<◌, length, get_or}
+use Rattle.std.specs.Prelude.{◌≡◌, refl, List, [], ◌∷◌, ℕ, zero, suc, ◌+◌, ◌<◌, length, get_or, Ok, Err}
 use Rattle.std.proofs.Common.{sym, ap, ◌∙◌, subst, arith}
 use Rattle.std.proofs.Math.Option.{Option, none, some}
-use Rattle.store_block.specs.declared.Order.TheVariants.{Less, Greater}
+use Rattle.std.specs.declared.cmp.Ordering.TheVariants.{Less, Greater}
 use Rattle.store_block.specs.Order.{cmp}
 use Rattle.store_block.specs.OrderLaws.{cmp-refl, cmp-equal, cmp-flip, below-trans}
-use Rattle.store_block.specs.Flip.{flip}
+use Rattle.std.specs.Ordering.{ordering_reverse}
 use Rattle.store_block.specs.Entry.{Entry, no_entry}
-use Rattle.store_layout.specs.declared.KeyPlace.TheVariants.{At, Gap}
 use Rattle.store_layout.specs.Store.{Above, Sorted}
 use Rattle.store_layout.specs.Entries.{by_order, find_from, find_in, put_entry, remove_entry}
 use Rattle.store_layout.proofs.EntriesLaws.{is-less, is-equal, is_greater, by-order, above-next}
@@ -41,7 +40,7 @@ under_at k (x ∷ xs) e h = go (λ q. under_at k xs e q)
 -- and every entry is under its own
 below_all : (es : List Entry) (k : List ℕ) (i : ℕ) → Above k es → Sorted es → i < length es → cmp (get_or es i no_entry).key k ≡ Greater
 below_all [] k i a s l = absurd (omega arith)
-below_all (x ∷ xs) k zero a s l = cmp-flip k x.key ∙ ap flip a
+below_all (x ∷ xs) k zero a s l = cmp-flip k x.key ∙ ap ordering_reverse a
 below_all (x ∷ xs) k (suc i) a s l = below_all xs k i (above-next k x xs a s.0) s.1 (omega arith)
 
 pub at_under : (es : List Entry) (i : ℕ) → Sorted es → i < length es → under (get_or es i no_entry).key es ≡ some (get_or es i no_entry)
@@ -51,45 +50,45 @@ at_under (x ∷ xs) zero s l = is-equal _ _ _ _ (cmp-refl x.key)
 at_under (x ∷ xs) (suc i) s l = is_greater _ _ _ _ (below_all xs x.key i s.0 s.1 (omega arith)) ∙ at_under xs i s.1 (omega arith)
 
 -- a search from place j on
-found_from : (j i : ℕ) (k : List ℕ) (es : List Entry) → find_from j k es ≡ At i → (off : ℕ) × (i ≡ j + off) × (under k es ≡ some (get_or es off no_entry))
+found_from : (j i : ℕ) (k : List ℕ) (es : List Entry) → find_from j k es ≡ Ok i → (off : ℕ) × (i ≡ j + off) × (under k es ≡ some (get_or es off no_entry))
 unfolding under find_from
 found_from j i k [] e = never (cc)
 found_from j i k (x ∷ xs) e = go (λ q. found_from (j + 1) i k xs q)
   where
-    go : (find_from (j + 1) k xs ≡ At i → (off : ℕ) × (i ≡ j + 1 + off) × (under k xs ≡ some (get_or xs off no_entry)))
+    go : (find_from (j + 1) k xs ≡ Ok i → (off : ℕ) × (i ≡ j + 1 + off) × (under k xs ≡ some (get_or xs off no_entry)))
         → (off : ℕ) × (i ≡ j + off) × (under k (x ∷ xs) ≡ some (get_or (x ∷ xs) off no_entry))
     go ih =
         by-order k x.key
-        (λ q. let a : Gap j ≡ At i = sym (is-less _ (Gap j) (At j) (find_from (j + 1) k xs) q) ∙ e in never (cc))
+        (λ q. let a : Err j ≡ Ok i = sym (is-less _ (Err j) (Ok j) (find_from (j + 1) k xs) q) ∙ e in never (cc))
         (λ q.
-        let a : At j ≡ At i = sym (is-equal _ (Gap j) (At j) (find_from (j + 1) k xs) q) ∙ e in
+        let a : Ok j ≡ Ok i = sym (is-equal _ (Err j) (Ok j) (find_from (j + 1) k xs) q) ∙ e in
         let b : j ≡ i = cc in
         (0, omega (arith, b), is-equal _ _ _ _ q))
         (λ q.
-        let r = ih (sym (is_greater _ (Gap j) (At j) (find_from (j + 1) k xs) q) ∙ e) in
+        let r = ih (sym (is_greater _ (Err j) (Ok j) (find_from (j + 1) k xs) q) ∙ e) in
         (suc r.0, omega (arith, r.1), is_greater _ _ _ _ q ∙ r.2))
 
-gap_from : (j i : ℕ) (k : List ℕ) (es : List Entry) → find_from j k es ≡ Gap i → under k es ≡ none
+gap_from : (j i : ℕ) (k : List ℕ) (es : List Entry) → find_from j k es ≡ Err i → under k es ≡ none
 unfolding under find_from
 gap_from j i k [] e = refl
 gap_from j i k (x ∷ xs) e = go (λ q. gap_from (j + 1) i k xs q)
   where
-    go : (find_from (j + 1) k xs ≡ Gap i → under k xs ≡ none) → under k (x ∷ xs) ≡ none
+    go : (find_from (j + 1) k xs ≡ Err i → under k xs ≡ none) → under k (x ∷ xs) ≡ none
     go ih =
         by-order k x.key
         (λ q. is-less _ _ _ _ q)
-        (λ q. let a : At j ≡ Gap i = sym (is-equal _ (Gap j) (At j) (find_from (j + 1) k xs) q) ∙ e in never (cc))
-        (λ q. is_greater _ _ _ _ q ∙ ih (sym (is_greater _ (Gap j) (At j) (find_from (j + 1) k xs) q) ∙ e))
+        (λ q. let a : Ok j ≡ Err i = sym (is-equal _ (Err j) (Ok j) (find_from (j + 1) k xs) q) ∙ e in never (cc))
+        (λ q. is_greater _ _ _ _ q ∙ ih (sym (is_greater _ (Err j) (Ok j) (find_from (j + 1) k xs) q) ∙ e))
 
 -- THE SEARCH FINDS IT: at the place that it gives, or it is not there
-pub find_at : (k : List ℕ) (es : List Entry) (i : ℕ) → find_in k es ≡ At i → under k es ≡ some (get_or es i no_entry)
+pub find_at : (k : List ℕ) (es : List Entry) (i : ℕ) → find_in k es ≡ Ok i → under k es ≡ some (get_or es i no_entry)
 unfolding find_in
 find_at k es i e =
     let r = found_from 0 i k es e in
     let z : r.0 ≡ i = omega (arith, r.1) in
     r.2 ∙ ap (λ (n : ℕ). some (get_or es n no_entry)) z
 
-pub find-gap : (k : List ℕ) (es : List Entry) (i : ℕ) → find_in k es ≡ Gap i → under k es ≡ none
+pub find-gap : (k : List ℕ) (es : List Entry) (i : ℕ) → find_in k es ≡ Err i → under k es ≡ none
 unfolding find_in
 find-gap k es i e = gap_from 0 i k es e
 
@@ -118,10 +117,10 @@ put_under k e (x ∷ xs) =
     ap (under k) (is_greater _ (e ∷ x ∷ xs) (e ∷ xs) (x ∷ put_entry e xs) q)
     ∙ by-order k x.key
     (λ p.
-    let b : cmp x.key e.key ≡ Less = cmp-flip e.key x.key ∙ ap flip q in
+    let b : cmp x.key e.key ≡ Less = cmp-flip e.key x.key ∙ ap ordering_reverse q in
     is-less _ _ _ _ p ∙ sym (is-less _ _ _ _ (below-trans k x.key e.key p b) ∙ is-less _ _ _ _ p))
     (λ p.
-    let b : cmp x.key e.key ≡ Less = cmp-flip e.key x.key ∙ ap flip q in
+    let b : cmp x.key e.key ≡ Less = cmp-flip e.key x.key ∙ ap ordering_reverse q in
     let c : cmp k e.key ≡ Less = ap (λ (z : List ℕ). cmp z e.key) (cmp-equal k x.key p) ∙ b in
     is-equal _ _ _ _ p ∙ sym (is-less _ _ _ _ c ∙ is-equal _ _ _ _ p))
     (λ p. is_greater _ _ _ _ p ∙ ih ∙ ap (λ (u : Option Entry). by_order (cmp k e.key) u (some e) u) (sym (is_greater _ _ _ _ p))))
@@ -152,10 +151,10 @@ remove-under k k' (x ∷ xs) s =
     ap (under k) (is_greater _ (x ∷ xs) xs (x ∷ remove_entry k' xs) q)
     ∙ by-order k x.key
     (λ p.
-    let b : cmp x.key k' ≡ Less = cmp-flip k' x.key ∙ ap flip q in
+    let b : cmp x.key k' ≡ Less = cmp-flip k' x.key ∙ ap ordering_reverse q in
     is-less _ _ _ _ p ∙ sym (is-less _ _ _ _ (below-trans k x.key k' p b) ∙ is-less _ _ _ _ p))
     (λ p.
-    let b : cmp x.key k' ≡ Less = cmp-flip k' x.key ∙ ap flip q in
+    let b : cmp x.key k' ≡ Less = cmp-flip k' x.key ∙ ap ordering_reverse q in
     let c : cmp k k' ≡ Less = ap (λ (z : List ℕ). cmp z k') (cmp-equal k x.key p) ∙ b in
     is-equal _ _ _ _ p ∙ sym (is-less _ _ _ _ c ∙ is-equal _ _ _ _ p))
     (λ p. is_greater _ _ _ _ p ∙ ih ∙ ap (λ (u : Option Entry). by_order (cmp k k') u none u) (sym (is_greater _ _ _ _ p))))
@@ -192,5 +191,5 @@ ext (e ∷ es) (f ∷ fs) s t h = go (λ r. ext es fs s.1 t.1 r)
         (λ p. sym (is_greater _ none (some e) (under k es) p) ∙ h k ∙ is_greater _ none (some f) (under k fs) (w ∙ p))) in
         cc)
         (λ q.
-        let b : cmp f.key e.key ≡ Less = cmp-flip e.key f.key ∙ ap flip q in
+        let b : cmp f.key e.key ≡ Less = cmp-flip e.key f.key ∙ ap ordering_reverse q in
         let a = sym (is-less _ none (some e) (under f.key es) b) ∙ other in never (cc))

@@ -4,13 +4,13 @@ use Rattle.std.proofs.Common.{sym, ap, ◌∙◌, arith}
 use mathlib.Core.List.{List, [], ◌∷◌, reverse_aux}
 use Rattle.std.proofs.Math.Option.{Option, none, some}
 use Rattle.base_definitions.specs.Lists.{only, first, last}
-use Rattle.store_block.specs.declared.Order.{Order}
-use Rattle.store_block.specs.declared.Order.TheVariants.{Less, Equal, Greater}
+use Rattle.std.specs.declared.cmp.Ordering.{Ordering}
+use Rattle.std.specs.declared.cmp.Ordering.TheVariants.{Less, Equal, Greater}
 use Rattle.store_block.specs.Order.{cmp, Below}
 use Rattle.store_block.specs.OrderLaws.{cmp-refl, cmp-equal, cmp-flip}
-use Rattle.store_block.specs.Flip.{flip}
+use Rattle.std.specs.Ordering.{ordering_reverse}
 use Rattle.store_block.specs.Entry.{Entry}
-use Rattle.store_block.specs.Block.{is_less}
+use Rattle.std.specs.Ordering.{is_lt}
 use Rattle.store_layout.specs.Store.{Above, Sorted}
 use Rattle.store_layout.specs.Entries.{next_of, previous_of}
 use Rattle.store_layout.proofs.EntriesLaws.{is-less, is-equal, is_greater, by-order, above-next, after}
@@ -76,7 +76,7 @@ first-chooses = record { foremost = foremost; exactly = exactly; nothing = nothi
         by-order e.key x.key
         (λ q. let n = under-less e.key x xs q in never (cc))
         (λ q. let n = under-equal e.key x xs q in cc)
-        (λ q. absurd (h.before x (own x xs) (cmp-flip e.key x.key ∙ ap flip q)))
+        (λ q. absurd (h.before x (own x xs) (cmp-flip e.key x.key ∙ ap ordering_reverse q)))
 
     nothing : (es : List Entry) → first es ≡ none → es ≡ []
     nothing [] h = refl
@@ -107,7 +107,7 @@ last-foremost (x ∷ []) e s h =
     record {
       there = ap (λ (y : Entry). under y.key (x ∷ [])) (sym z) ∙ own x [] ∙ ap some z;
       before = λ y u b.
-          let n = under-greater y.key x [] (ap (λ (e : Entry). cmp y.key e.key) z ∙ cmp-flip e.key y.key ∙ ap flip b) in
+          let n = under-greater y.key x [] (ap (λ (e : Entry). cmp y.key e.key) z ∙ cmp-flip e.key y.key ∙ ap ordering_reverse b) in
           never (cc);
     }
 last-foremost (x ∷ y ∷ ys) e s h =
@@ -138,7 +138,7 @@ last-exactly (x ∷ y ∷ ys) e s h =
     (λ q. let n = under-less e.key x (y ∷ ys) q in never (cc))
     (λ q.
     let b : Below e.key y.key = ap (λ (k : List ℕ). cmp k y.key) (cmp-equal e.key x.key q) ∙ s.0 in
-    absurd (h.before y (under-greater y.key x (y ∷ ys) (cmp-flip x.key y.key ∙ ap flip s.0) ∙ own y ys) b))
+    absurd (h.before y (under-greater y.key x (y ∷ ys) (cmp-flip x.key y.key ∙ ap ordering_reverse s.0) ∙ own y ys) b))
     (λ q.
     last-exactly (y ∷ ys) e s.1
     (record {
@@ -156,15 +156,13 @@ last-chooses = record { foremost = last-foremost; exactly = last-exactly; nothin
 
 -- ---- either side: a choice among the entries beyond k that pass
 
-less-true : (o : Order) → is_less o ≡ true → o ≡ Less
-unfolding is_less
+less-true : (o : Ordering) → is_lt o ≡ true → o ≡ Less
 less-true Less e = refl
 less-true Equal e = never (cc)
 less-true Greater e = never (cc)
 
-true-less : (o : Order) → o ≡ Less → is_less o ≡ true
-unfolding is_less
-true-less o e = ap is_less e
+true-less : (o : Ordering) → o ≡ Less → is_lt o ≡ true
+true-less o e = ap is_lt e
 
 -- the test of a side
 record Tests (Beyond : List ℕ → List ℕ → Type 0) (test : List ℕ → Entry → Bool) : Type 0 where
@@ -224,10 +222,10 @@ module _ {Beyond : List ℕ → List ℕ → Type 0} {choose : List Entry → Op
       go none e = e
       go (some x) e = let m = chosen-nearest x e in let f = n x m.there m.beyond in let p = m.fits in never (cc)
 
-upwards : Tests Upwards (λ k e. is_less (cmp k e.key))
+upwards : Tests Upwards (λ k e. is_lt (cmp k e.key))
 upwards = record { yes = λ k e h. less-true (cmp k e.key) h; no = λ k e h. true-less (cmp k e.key) h }
 
-downwards : Tests Downwards (λ k e. is_less (cmp e.key k))
+downwards : Tests Downwards (λ k e. is_lt (cmp e.key k))
 downwards = record { yes = λ k e h. less-true (cmp e.key k) h; no = λ k e h. true-less (cmp e.key k) h }
 
 -- ---- the theorems

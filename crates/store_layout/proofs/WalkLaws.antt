@@ -1,5 +1,5 @@
 -- A turn of a walk over the blocks, for the calls that count and search.
-use Rattle.std.specs.Prelude.{◌≡◌, ℕ, suc, ◌+◌, ◌-◌, ◌≤◌, ◌<◌, length, drop, get_or}
+use Rattle.std.specs.Prelude.{◌≡◌, ℕ, suc, ◌+◌, ◌-◌, ◌≤◌, ◌<◌, length, drop, get_or, Ok, Err}
 use Rattle.std.proofs.Common.{sym, ap₂, ◌∙◌, get_or-drop, drop-drop}
 use Rattle.std.proofs.Math.Path.{ap}
 use mathlib.Core.List.{List, [], ◌∷◌}
@@ -7,7 +7,6 @@ use native.Mathlib.Omega.{arith}
 use Rattle.std.proofs.Math.ListN.{take}
 use Rattle.store_block.specs.Order.{cmp}
 use Rattle.store_block.specs.Block.{decode}
-use Rattle.store_layout.specs.declared.KeyPlace.TheVariants.{At, Gap}
 use Rattle.store_layout.specs.Store.{entries_from}
 use Rattle.store_layout.specs.Entries.{by_order, find_from}
 use Rattle.store_layout.proofs.StoreLaws.{from-blank, from-used}
@@ -40,18 +39,18 @@ module _ (l : List ℕ) (n i a : ℕ) where
   count-end h = let e = ap length (rest_end h) in omega arith
 
   module _ (key : List ℕ) where
-    pub find-blank : get_or l a 0 ≡ 0 → find_from i key (entries_from (n - i) (drop a l)) ≡ Gap i
+    pub find-blank : get_or l a 0 ≡ 0 → find_from i key (entries_from (n - i) (drop a l)) ≡ Err i
     unfolding find_from
     find-blank h = ap (find_from i key) (rest-blank h)
 
     pub find-used : i < n → (get_or l a 0 ≡ 0 → ⊥) → find_from i key (entries_from (n - i) (drop a l))
-        ≡ by_order (cmp key (take (get_or l (a + 1) 0) (drop (a + 8) l))) (Gap i) (At i) (find_from (i + 1) key (entries_from (n - (i + 1)) (drop (a + 512) l)))
+        ≡ by_order (cmp key (take (get_or l (a + 1) 0) (drop (a + 8) l))) (Err i) (Ok i) (find_from (i + 1) key (entries_from (n - (i + 1)) (drop (a + 512) l)))
     unfolding find_from decode
     find-used h k =
         ap (find_from i key) (rest-used h k)
-        ∙ ap (λ (q : List ℕ). by_order (cmp key q) (Gap i) (At i) (find_from (i + 1) key (entries_from (n - (i + 1)) (drop (a + 512) l))))
+        ∙ ap (λ (q : List ℕ). by_order (cmp key q) (Err i) (Ok i) (find_from (i + 1) key (entries_from (n - (i + 1)) (drop (a + 512) l))))
         (ap₂ take (get_or-drop a l 1 0) (drop-drop 8 a l))
 
-    pub find-end : n ≤ i → find_from i key (entries_from (n - i) (drop a l)) ≡ Gap i
+    pub find-end : n ≤ i → find_from i key (entries_from (n - i) (drop a l)) ≡ Err i
     unfolding find_from
     find-end h = ap (find_from i key) (rest_end h)

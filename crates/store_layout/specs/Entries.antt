@@ -1,46 +1,43 @@
 -- What the calls do, said of a list of entries in the order of their keys.
-use Rattle.std.specs.Prelude.{◌≡◌, Bool, true, cond, List, [], ◌∷◌, ℕ, ◌+◌, ◌≤◌, ltb, length, take, drop, get_or}
+use Rattle.std.specs.Prelude.{◌≡◌, Bool, true, cond, List, [], ◌∷◌, ℕ, ◌+◌, ◌≤◌, ltb, length, take, drop, get_or, Result, Ok, Err, false}
 use Rattle.std.proofs.Math.Option.{Option}
 use Rattle.base_definitions.specs.Lists.{only, first, last}
-use Rattle.store_block.specs.declared.Order.{Order}
-use Rattle.store_block.specs.declared.Order.TheVariants.{Less, Equal, Greater}
+use Rattle.std.specs.declared.cmp.Ordering.{Ordering}
+use Rattle.std.specs.declared.cmp.Ordering.TheVariants.{Less, Equal, Greater}
 use Rattle.store_block.specs.Order.{cmp}
 use Rattle.store_block.specs.Entry.{Entry, entry, no_entry}
-use Rattle.store_block.specs.Block.{fit_test, is_less}
-use Rattle.store_layout.specs.declared.KeyPlace.{KeyPlace}
-use Rattle.store_layout.specs.declared.KeyPlace.TheVariants.{At, Gap}
-use Rattle.store_layout.specs.declared.PutAnswer.{PutAnswer}
-use Rattle.store_layout.specs.declared.PutAnswer.TheVariants.{Stored, Full, Unfit}
-use Rattle.store_layout.specs.declared.DeleteAnswer.{DeleteAnswer}
-use Rattle.store_layout.specs.declared.DeleteAnswer.TheVariants.{Deleted, Missing}
+use Rattle.std.specs.Ordering.{is_lt}
+use Rattle.store_block.specs.Block.{fit_test}
+use Rattle.store_layout.specs.declared.PutError.{PutError}
+use Rattle.store_layout.specs.declared.PutError.TheVariants.{Full, Unfit}
 use Rattle.store_layout.specs.declared.EntryPart.{EntryPart}
 use Rattle.store_layout.specs.declared.Parts.{Parts}
 use Rattle.store_layout.specs.Store.{entries_of, bytes_of, blocks_in, Good}
 
-unfoldable pub by_order {ℓ} : {X : Type ℓ} → Order → X → X → X → X
+unfoldable pub by_order {ℓ} : {X : Type ℓ} → Ordering → X → X → X → X
 by_order Less a b c = a
 by_order Equal a b c = b
 by_order Greater a b c = c
 
 -- where a key stands, or would stand, when the first entry has place i
-unfoldable pub find_from : ℕ → List ℕ → List Entry → KeyPlace
-find_from i k [] = Gap i
-find_from i k (e ∷ es) = by_order (cmp k e.key) (Gap i) (At i) (find_from (i + 1) k es)
+unfoldable pub find_from : ℕ → List ℕ → List Entry → Result ℕ ℕ
+find_from i k [] = Err i
+find_from i k (e ∷ es) = by_order (cmp k e.key) (Err i) (Ok i) (find_from (i + 1) k es)
 
-unfoldable pub find_in : List ℕ → List Entry → KeyPlace
+unfoldable pub find_in : List ℕ → List Entry → Result ℕ ℕ
 find_in k es = find_from 0 k es
 
 -- the place that a search gives, and the one past what it found
-unfoldable pub place_of : KeyPlace → ℕ
-place_of (At i) = i
-place_of (Gap i) = i
+unfoldable pub place_of : Result ℕ ℕ → ℕ
+place_of (Ok i) = i
+place_of (Err i) = i
 
-unfoldable pub past_of : KeyPlace → ℕ
-past_of (At i) = i + 1
-past_of (Gap i) = i
+unfoldable pub past_of : Result ℕ ℕ → ℕ
+past_of (Ok i) = i + 1
+past_of (Err i) = i
 
 -- what find promises: a place inside the store, for a good one the right place
-pub record Sought (l k : List ℕ) (r : KeyPlace) : Type 0 where
+pub record Sought (l k : List ℕ) (r : Result ℕ ℕ) : Type 0 where
   pub within : past_of r ≤ blocks_in l
   pub same : Good l → r ≡ find_in k (entries_of l)
 
@@ -56,11 +53,11 @@ up_to k (e ∷ es) = by_order (cmp e.key k) (1 + up_to k es) (1 + up_to k es) (u
 
 -- "nearest stored key strictly above": of entries in the order of their keys, the first whose key is above k
 unfoldable pub next_of : List ℕ → List Entry → Option Entry
-next_of k es = first (only (λ e. is_less (cmp k e.key)) es)
+next_of k es = first (only (λ e. is_lt (cmp k e.key)) es)
 
 -- "or below": the last whose key is below k
 unfoldable pub previous_of : List ℕ → List Entry → Option Entry
-previous_of k es = last (only (λ e. is_less (cmp e.key k)) es)
+previous_of k es = last (only (λ e. is_lt (cmp e.key k)) es)
 
 -- a part's bytes in the store, and the entry that parts show
 abbrev pub part_of : List ℕ → EntryPart → List ℕ
@@ -94,31 +91,34 @@ remove_entry k [] = []
 remove_entry k (x ∷ xs) = by_order (cmp k x.key) (x ∷ xs) xs (x ∷ remove_entry k xs)
 
 -- there is room where the key is known, and where a block is blank
-unfoldable pub roomy : KeyPlace → ℕ → ℕ → Bool
-roomy (At i) used n = true
-roomy (Gap i) used n = ltb used n
+unfoldable pub roomy : Result ℕ ℕ → ℕ → ℕ → Bool
+roomy (Ok i) used n = true
+roomy (Err i) used n = ltb used n
 
 unfoldable pub has_room : List ℕ → Entry → Bool
 has_room l e = roomy (find_in e.key (entries_of l)) (length (entries_of l)) (blocks_in l)
 
+abbrev pub PutAnswer : Type 0
+PutAnswer = Result (Unit {0}) PutError
+
 -- put answers Unfit for an entry that does not fit, Full for "a new key .. with no blank block"
 unfoldable pub put_answer : List ℕ → Entry → PutAnswer
-put_answer l e = cond (fit_test e) (cond (has_room l e) Stored Full) Unfit
+put_answer l e = cond (fit_test e) (cond (has_room l e) (Ok tt) (Err Full)) (Err Unfit)
 
 unfoldable pub when_stored {ℓ} : {X : Type ℓ} → PutAnswer → X → X → X
-when_stored Stored a b = a
-when_stored Full a b = b
-when_stored Unfit a b = b
+when_stored (Ok done) a b = a
+when_stored (Err why) a b = b
 
 -- the store after put: as it was unless the entry was stored
 unfoldable pub put_store : List ℕ → Entry → List ℕ
 put_store l e = when_stored (put_answer l e) (bytes_of (blocks_in l) (put_entry e (entries_of l))) l
 
-unfoldable pub delete_of : KeyPlace → DeleteAnswer
-delete_of (At i) = Deleted
-delete_of (Gap i) = Missing
+-- delete answers whether the key was there
+unfoldable pub delete_of : Result ℕ ℕ → Bool
+delete_of (Ok i) = true
+delete_of (Err i) = false
 
-unfoldable pub delete_answer : List ℕ → List ℕ → DeleteAnswer
+unfoldable pub delete_answer : List ℕ → List ℕ → Bool
 delete_answer l k = delete_of (find_in k (entries_of l))
 
 unfoldable pub delete_store : List ℕ → List ℕ → List ℕ

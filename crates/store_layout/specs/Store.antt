@@ -2,7 +2,8 @@
 use Rattle.std.specs.Prelude.{◌≡◌, Bool, true, false, ◌&&◌, List, [], ◌∷◌, ◌++◌, ℕ, zero, suc, ◌-◌, ◌*◌, ◌/◌, ◌≤◌, eqb, leb, length, take, drop, get_or, replicate}
 use Rattle.store_block.specs.Order.{cmp, Below}
 use Rattle.store_block.specs.Entry.{Entry, Fit}
-use Rattle.store_block.specs.Block.{block, decode, is_equal, is_less, block_test}
+use Rattle.std.specs.Ordering.{is_eq, is_lt}
+use Rattle.store_block.specs.Block.{block, decode, block_test}
 use Rattle.store_block.specs.Offsets.{BLOCK_BYTES}
 
 -- "blocks of 512 bytes": how many some bytes have
@@ -57,8 +58,8 @@ unfoldable pub good_from : ℕ → List ℕ → List ℕ → Bool
 good_from zero k l = eqb (length l) 0
 good_from (suc n) k l =
     elim (eqb (get_or l 0 0) 0) [
-      | true ↦ (eqb (length l) (suc n * 512) && is_equal (cmp l (replicate (length l) 0)))
-      | false ↦ (block_test (take 512 l) && (is_less (cmp k (decode l).key) && good_from n (decode l).key (drop BLOCK_BYTES l)))
+      | true ↦ (eqb (length l) (suc n * 512) && is_eq (cmp l (replicate (length l) 0)))
+      | false ↦ (block_test (take 512 l) && (is_lt (cmp k (decode l).key) && good_from n (decode l).key (drop BLOCK_BYTES l)))
     ]
 
 -- false is refusal 2, STORE_BAD

@@ -6,13 +6,6 @@ ghost use Rattle.store_layout.specs.Store.{size_good, entries_of, Good};
 
 use store_block::offsets::BLOCK_BYTES;
 
-// Where a key stands, or would stand.
-#[derive(Clone, Copy)]
-pub enum KeyPlace {
-    At(usize),
-    Gap(usize),
-}
-
 // Where a part of an entry lies in the store.
 #[derive(Clone, Copy)]
 pub struct EntryPart {
@@ -29,30 +22,18 @@ pub struct Parts {
     pub algorithm: u8,
 }
 
-#[derive(Drop)]
-pub enum PutAnswer {
-    Stored,
+// Why an entry isn't stored: no block is blank, or it fits none.
+#[derive(Clone, Copy, Debug, PartialEq, Eq)]
+pub enum PutError {
     Full,
     Unfit,
-}
-
-#[derive(Drop)]
-pub enum DeleteAnswer {
-    Deleted,
-    Missing,
 }
 
 // Whether there are 1 to 128 whole blocks.
 pub fn size_good(store: &[u8]) -> bool
     ensures { result ≡ size_good store.now }
 {
-    if store.len() < BLOCK_BYTES {
-        return false;
-    }
-    if 65536 < store.len() {
-        return false;
-    }
-    store.len() % BLOCK_BYTES == 0
+    (BLOCK_BYTES..=65536).contains(&store.len()) && store.len() % BLOCK_BYTES == 0
 }
 
 // The number of used blocks.
@@ -60,14 +41,10 @@ pub fn count(store: &[u8]) -> usize
     ensures { Good store.now → result ≡ length (entries_of store.now) }
 {
     let n = store.len() / BLOCK_BYTES;
-    let mut i: usize = 0;
-    let mut a: usize = 0;
-    while i < n {
-        if store[a] == 0 {
+    for i in 0..n {
+        if store[i * BLOCK_BYTES] == 0 {
             return i;
         }
-        i += 1;
-        a += BLOCK_BYTES;
     }
-    i
+    n
 }

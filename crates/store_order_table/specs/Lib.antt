@@ -2,5 +2,3 @@ pub mod Table
 pub mod TableLaws
 pub mod Halving
 pub mod HalvingLaws
-pub mod Inserted
-pub mod InsertedLaws

@@ -2,12 +2,13 @@
 use Rattle.std.specs.Prelude.{◌≡◌, refl, ◌⊎◌, Bool, true, false, cond, List, [], ◌∷◌, ◌++◌, ℕ, suc, ◌+◌, ◌≤◌, eqb, length}
 use Rattle.std.proofs.Common.{sym, ap, ◌∙◌, subst, inl, inr, ⊎_elim, arith, length-append, eqb-true, ne_eqb}
 use Rattle.std.proofs.lemmas.Bool.{eqb-false}
-use Rattle.store_block.specs.declared.Order.{Order}
-use Rattle.store_block.specs.declared.Order.TheVariants.{Less, Equal, Greater}
+use Rattle.std.specs.declared.cmp.Ordering.{Ordering}
+use Rattle.std.specs.declared.cmp.Ordering.TheVariants.{Less, Equal, Greater}
 use Rattle.store_block.specs.Order.{cmp}
 use Rattle.store_block.specs.OrderLaws.{cmp-equal, cmp-refl}
 use Rattle.store_block.specs.Entry.{Entry}
-use Rattle.store_block.specs.Block.{decode, is_equal, BlockGood}
+use Rattle.std.specs.Ordering.{is_eq}
+use Rattle.store_block.specs.Block.{decode, BlockGood}
 use Rattle.store_layout.specs.Entries.{by_order, put_entry}
 use Rattle.store_layout.proofs.EntriesLaws.{put-sorted, put_fit}
 use Rattle.store_rescue.specs.declared.state.BlockState.{BlockState}
@@ -30,25 +31,25 @@ in_parts e [] vs i = inr i
 in_parts e (u ∷ us) vs i = ⊎_elim (λ q. inl (inl q)) (λ j. ⊎_elim (λ k. inl (inr k)) (λ k. inr k) (in_parts e us vs j)) i
 
 pub has_in : (k : List ℕ) (es : List Entry) → has_key k es ≡ true → Keyed k es
-unfolding has_key is_equal
+unfolding has_key
 has_in k [] h = absurd (let z : ◌≡◌ {A = ℕ} 0 1 = cc in omega arith)
 has_in k (x ∷ xs) h = go (cmp k x.key) refl (λ g. has_in k xs g)
   where
     further : Keyed k xs → Keyed k (x ∷ xs)
     further w = record { entry = w.entry; among = inr w.among; same = w.same }
 
-    go : (o : Order) → cmp k x.key ≡ o → (has_key k xs ≡ true → Keyed k xs) → Keyed k (x ∷ xs)
+    go : (o : Ordering) → cmp k x.key ≡ o → (has_key k xs ≡ true → Keyed k xs) → Keyed k (x ∷ xs)
     go Equal q ih = record { entry = x; among = inl refl; same = cmp-equal k x.key q }
-    go Less q ih = further (ih (sym (ap (λ (o : Order). cond (is_equal o) true (has_key k xs)) q) ∙ h))
-    go Greater q ih = further (ih (sym (ap (λ (o : Order). cond (is_equal o) true (has_key k xs)) q) ∙ h))
+    go Less q ih = further (ih (sym (ap (λ (o : Ordering). cond (is_eq o) true (has_key k xs)) q) ∙ h))
+    go Greater q ih = further (ih (sym (ap (λ (o : Ordering). cond (is_eq o) true (has_key k xs)) q) ∙ h))
 
 pub in-has : (e : Entry) (es : List Entry) → In e es → has_key e.key es ≡ true
-unfolding has_key is_equal
+unfolding has_key
 in-has e [] i = absurd i
 in-has e (x ∷ xs) i =
     ⊎_elim
-    (λ q. ap (λ (y : Entry). cond (is_equal (cmp e.key y.key)) true (has_key e.key xs)) (sym q) ∙ ap (λ (o : Order). cond (is_equal o) true (has_key e.key xs)) (cmp-refl e.key))
-    (λ j. ap (cond (is_equal (cmp e.key x.key)) true) (in-has e xs j) ∙ either (is_equal (cmp e.key x.key))) i
+    (λ q. ap (λ (y : Entry). cond (is_eq (cmp e.key y.key)) true (has_key e.key xs)) (sym q) ∙ ap (λ (o : Ordering). cond (is_eq o) true (has_key e.key xs)) (cmp-refl e.key))
+    (λ j. ap (cond (is_eq (cmp e.key x.key)) true) (in-has e xs j) ∙ either (is_eq (cmp e.key x.key))) i
   where
     either : (b : Bool) → cond b true true ≡ true
     either true = refl
@@ -62,20 +63,20 @@ record PutIn (e : Entry) (es : List Entry) : Type 0 where
   pub put : put_entry e es ≡ before ++ (e ∷ after)
 
 put-new : (e : Entry) (es : List Entry) → has_key e.key es ≡ false → PutIn e es
-unfolding has_key put_entry is_equal by_order
+unfolding has_key put_entry by_order
 put-new e [] h = record { before = []; after = []; whole = refl; put = refl }
 put-new e (x ∷ xs) h = go (cmp e.key x.key) refl (λ g. put-new e xs g)
   where
-    go : (o : Order) → cmp e.key x.key ≡ o → (has_key e.key xs ≡ false → PutIn e xs) → PutIn e (x ∷ xs)
-    go Less q ih = record { before = []; after = x ∷ xs; whole = refl; put = ap (λ (o : Order). by_order o (e ∷ x ∷ xs) (e ∷ xs) (x ∷ put_entry e xs)) q }
-    go Equal q ih = absurd (let w = sym (ap (λ (o : Order). cond (is_equal o) true (has_key e.key xs)) q) ∙ h in let z : ◌≡◌ {A = ℕ} 0 1 = cc in omega arith)
+    go : (o : Ordering) → cmp e.key x.key ≡ o → (has_key e.key xs ≡ false → PutIn e xs) → PutIn e (x ∷ xs)
+    go Less q ih = record { before = []; after = x ∷ xs; whole = refl; put = ap (λ (o : Ordering). by_order o (e ∷ x ∷ xs) (e ∷ xs) (x ∷ put_entry e xs)) q }
+    go Equal q ih = absurd (let w = sym (ap (λ (o : Ordering). cond (is_eq o) true (has_key e.key xs)) q) ∙ h in let z : ◌≡◌ {A = ℕ} 0 1 = cc in omega arith)
     go Greater q ih =
-        let r = ih (sym (ap (λ (o : Order). cond (is_equal o) true (has_key e.key xs)) q) ∙ h) in
+        let r = ih (sym (ap (λ (o : Ordering). cond (is_eq o) true (has_key e.key xs)) q) ∙ h) in
         record {
           before = x ∷ r.before;
           after = r.after;
           whole = ap (λ (l : List Entry). x ∷ l) r.whole;
-          put = ap (λ (o : Order). by_order o (e ∷ x ∷ xs) (e ∷ xs) (x ∷ put_entry e xs)) q ∙ ap (λ (l : List Entry). x ∷ l) r.put;
+          put = ap (λ (o : Ordering). by_order o (e ∷ x ∷ xs) (e ∷ xs) (x ∷ put_entry e xs)) q ∙ ap (λ (l : List Entry). x ∷ l) r.put;
         }
 
 -- ---- a block is kept, or not

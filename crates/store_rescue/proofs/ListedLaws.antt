@@ -1,5 +1,5 @@
 -- The kept blocks of those looked at so far, by an order table, and what becomes of the next one.
-use Rattle.std.specs.Prelude.{◌≡◌, true, get_or}
+use Rattle.std.specs.Prelude.{◌≡◌, true, get_or, Ok, Err}
 use Rattle.std.proofs.Math.Path.{sym, ap, ap₂, subst}
 use Rattle.std.proofs.Common.{◌∙◌, not-suc-le-zero, le_of_suc-le-suc, take-append-drop}
 use Rattle.std.proofs.Math.Bool.{Bool, false, cond}
@@ -15,7 +15,6 @@ use Rattle.store_block.specs.Block.{decode, BlockGood}
 use Rattle.store_block.specs.BlockLaws.{sized, decode-block}
 use Rattle.store_block.specs.Over.{over}
 use Rattle.store_block.specs.OverLaws.{length_over}
-use Rattle.store_layout.specs.declared.KeyPlace.TheVariants.{At, Gap}
 use Rattle.store_layout.specs.Store.{Sorted}
 use Rattle.store_layout.specs.Entries.{find_in, find_from, put_entry}
 use Rattle.store_layout.specs.Splices.{insert_at}
@@ -67,7 +66,7 @@ module _ (l : List ℕ) (i kept : ℕ) (o : List ℕ) (a : Listed l i kept o) wh
   in-store n = record { each = λ m h. let w = (each_at (Kept l i) (take kept o) m a.each h).low in let b = n.inside in omega arith }
 
   -- where a key goes
-  pub gap-low : (k : List ℕ) (p : ℕ) → Gap p ≡ find_in k (entries_at l (take kept o)) → p ≤ kept
+  pub gap-low : (k : List ℕ) (p : ℕ) → Err p ≡ find_in k (entries_at l (take kept o)) → p ≤ kept
   unfolding find_in
   gap-low k p f =
       let r = in-gap 0 p (entry k [] [] [] 0) (entries_at l (take kept o)) (sym f) in
@@ -104,11 +103,11 @@ module _ (l : List ℕ) (i kept : ℕ) (o : List ℕ) (a : Listed l i kept o) wh
     byte-by x h = sound-byte (block_at l i) (entries_at l (take kept o)) x g (ap (λ (z : List ℕ). has_key z (entries_at l (take kept o))) (sym q) ∙ h)
 
     -- its key is among those kept
-    pub key_twice : At p ≡ find_in k (entries_at l (take kept o)) → Judged l i kept o 4 kept o
+    pub key_twice : Ok p ≡ find_in k (entries_at l (take kept o)) → Judged l i kept o 4 kept o
     key_twice f = left_out 4 (byte-by true (has-at k (entries_at l (take kept o)) a.sorted p f)) (λ e. omega arith)
 
     -- it is not: the block is kept
-    pub key-new : Next l i → Gap p ≡ find_in k (entries_at l (take kept o)) → Judged l i kept o 1 (kept + 1) (over o p (i ∷ take (kept - p) (drop p o)))
+    pub key-new : Next l i → Err p ≡ find_in k (entries_at l (take kept o)) → Judged l i kept o 1 (kept + 1) (over o p (i ∷ take (kept - p) (drop p o)))
     unfolding kept_with entries_at find_in over
     key-new n f =
         let xs : List ℕ = take p o in

@@ -5,14 +5,15 @@ use Rattle.std.proofs.Common.{ap₂, ◌∙◌, not-suc-le-zero, le_of_suc-le-su
 use mathlib.Core.List.{List, [], ◌∷◌, ◌++◌, append_assoc, append-nil}
 use native.Mathlib.Omega.{arith}
 use Rattle.std.proofs.lemmas.List.{replicate-append-replicate}
-use Rattle.store_block.specs.declared.Order.{Order}
-use Rattle.store_block.specs.declared.Order.TheVariants.{Greater}
+use Rattle.std.specs.declared.cmp.Ordering.{Ordering}
+use Rattle.std.specs.declared.cmp.Ordering.TheVariants.{Greater}
 use Rattle.store_block.specs.Order.{cmp, Below}
 use Rattle.store_block.specs.OrderLaws.{cmp-flip, below-trans}
-use Rattle.store_block.specs.Flip.{flip}
+use Rattle.std.specs.Ordering.{ordering_reverse}
 use Rattle.store_block.specs.DecidesLaws.{says-yes}
 use Rattle.store_block.specs.Entry.{Entry, Fit}
-use Rattle.store_block.specs.Block.{block, decode, is_equal}
+use Rattle.std.specs.Ordering.{is_eq}
+use Rattle.store_block.specs.Block.{block, decode}
 use Rattle.store_block.specs.BlockLaws.{sized, length-block, decode-own, fit-good}
 use Rattle.store_layout.specs.Store.{blocks_in, blocks, bytes_of, entries_of, AllFit, none, more, Above, Sorted, Good}
 use Rattle.store_layout.specs.Size.{SizeGood}
@@ -75,18 +76,18 @@ under_last [] e m u b = (b, tt)
 under_last (x ∷ xs) e m u b = (below-trans x.key e.key m u.0 b, under_last xs e m u.1 b)
 
 above-it : (k x : List ℕ) → Below x k → cmp k x ≡ Greater
-above-it k x b = cmp-flip x k ∙ ap flip b
+above-it k x b = cmp-flip x k ∙ ap ordering_reverse b
 
 under-new : (es : List Entry) (k : List ℕ) → Under es k → has_key k es ≡ false
-unfolding has_key is_equal
+unfolding has_key
 under-new [] k u = refl
-under-new (x ∷ xs) k u = ap (λ (o : Order). cond (is_equal o) true (has_key k xs)) (above-it k x.key u.0) ∙ under-new xs k u.1
+under-new (x ∷ xs) k u = ap (λ (o : Ordering). cond (is_eq o) true (has_key k xs)) (above-it k x.key u.0) ∙ under-new xs k u.1
 
 under-put : (es : List Entry) (e : Entry) → Under es e.key → put_entry e es ≡ es ++ (e ∷ [])
 unfolding put_entry by_order
 under-put [] e u = refl
 under-put (x ∷ xs) e u =
-    ap (λ (o : Order). by_order o (e ∷ x ∷ xs) (e ∷ xs) (x ∷ put_entry e xs)) (above-it e.key x.key u.0) ∙ ap (λ (l : List Entry). x ∷ l) (under-put xs e u.1)
+    ap (λ (o : Ordering). by_order o (e ∷ x ∷ xs) (e ∷ xs) (x ∷ put_entry e xs)) (above-it e.key x.key u.0) ∙ ap (λ (l : List Entry). x ∷ l) (under-put xs e u.1)
 
 -- a sound block behind those kept so far
 next-byte : (ps : List Entry) (e : Entry) → Fit e → Under ps e.key → report_byte ps (block e) ≡ 1

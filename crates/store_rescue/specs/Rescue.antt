@@ -1,15 +1,16 @@
 -- Change request 6: "a rescue over a lent store and a lent report of one byte for each block".
-use Rattle.std.specs.Prelude.{Bool, true, false, cond, List, [], ◌∷◌, ℕ, zero, suc, eqb, length, take, drop}
+use Rattle.std.specs.Prelude.{Bool, true, false, cond, List, [], ◌∷◌, ℕ, zero, suc, eqb, length, take, drop, Result, Ok, Err}
 use Rattle.store_block.specs.Order.{cmp}
 use Rattle.store_block.specs.Entry.{Entry}
-use Rattle.store_block.specs.Block.{decode, is_equal}
+use Rattle.std.specs.Ordering.{is_eq}
+use Rattle.store_block.specs.Block.{decode}
 use Rattle.store_layout.specs.Store.{blocks_in, bytes_of, size_good}
 use Rattle.store_layout.specs.Entries.{put_entry}
 use Rattle.store_rescue.specs.declared.state.BlockState.{BlockState}
 use Rattle.store_rescue.specs.declared.state.BlockState.TheVariants.{Blank, SumWrong, RuleBroken, Sound}
 use Rattle.store_rescue.specs.State.{state_of}
-use Rattle.store_rescue.specs.declared.rule.Rescued.{Rescued}
-use Rattle.store_rescue.specs.declared.rule.Rescued.TheVariants.{Done, StoreBad, ReportBad}
+use Rattle.store_rescue.specs.declared.rule.RescueError.{RescueError}
+use Rattle.store_rescue.specs.declared.rule.RescueError.TheVariants.{StoreBad, ReportBad}
 
 -- the blocks of a store, by place
 unfoldable pub blocks_from : ℕ → List ℕ → List (List ℕ)
@@ -19,7 +20,7 @@ blocks_from (suc n) l = take 512 l ∷ blocks_from n (drop 512 l)
 -- whether one of some entries has a key
 unfoldable pub has_key : List ℕ → List Entry → Bool
 has_key k [] = false
-has_key k (e ∷ es) = cond (is_equal (cmp k e.key)) true (has_key k es)
+has_key k (e ∷ es) = cond (is_eq (cmp k e.key)) true (has_key k es)
 
 -- "Report bytes .. the first that applies: 0 blank, 2 check wrong, 3 other rule broken, 4 key of an earlier kept block, 1 kept"
 unfoldable pub report : Bool → BlockState → ℕ
@@ -70,7 +71,7 @@ unfoldable pub rescue_of : List ℕ → List ℕ → Outcome
 rescue_of l r = cond (size_good l) (cond (eqb (length r) (blocks_in l)) (outcome 0 (rescued_store l) (report_of l)) (outcome 8 l r)) (outcome 2 l r)
 
 -- the number of an answer
-abbrev pub rescue_number : Rescued → ℕ
-rescue_number Done = 0
-rescue_number StoreBad = 2
-rescue_number ReportBad = 8
+abbrev pub rescue_number : Result (Unit {0}) RescueError → ℕ
+rescue_number (Ok done) = 0
+rescue_number (Err StoreBad) = 2
+rescue_number (Err ReportBad) = 8

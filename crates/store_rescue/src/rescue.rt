@@ -5,7 +5,7 @@ ghost use Rattle.store_layout.specs.Size.{SizeGood};
 ghost use Rattle.store_rescue.specs.Rescue.{outcome, rescue_of, rescue_number};
 ghost use Rattle.store_rescue.specs.Survey.{Surveyed};
 
-use crate::rule::Rescued;
+use crate::rule::RescueError;
 use store_block::offsets::BLOCK_BYTES;
 
 // Writes the report, and the numbers of the kept blocks in the order of their keys; answers how many there are.
@@ -14,28 +14,26 @@ fn survey(store: &[u8], report: &mut [u8], order: &mut [u8]) -> usize
     ensures { Surveyed store.now result report.new order.new }
 {
     let mut kept: usize = 0;
-    let mut i: usize = 0;
-    while i < report.len() {
+    for i in 0..report.len() {
         let step = crate::rule::admit(store, order, kept, i);
         report[i] = step.byte;
         kept = step.kept;
-        i += 1;
     }
     kept
 }
 
 // Puts the sound blocks of a store in order, of equal keys the earliest, blanks all others, and reports what became of each.
-pub fn rescue(store: &mut [u8], report: &mut [u8]) -> Rescued
+pub fn rescue(store: &mut [u8], report: &mut [u8]) -> Result<(), RescueError>
     ensures { outcome (rescue_number result) store.new report.new ≡ rescue_of store.old report.old }
 {
     if !store_layout::size_good(store) {
-        return Rescued::StoreBad;
+        return Err(RescueError::StoreBad);
     }
     if report.len() != store.len() / BLOCK_BYTES {
-        return Rescued::ReportBad;
+        return Err(RescueError::ReportBad);
     }
     let mut order = [0u8; 128];
     let kept = survey(store, report, &mut order);
     store_arrange::arrange(store, order, kept);
-    Rescued::Done
+    Ok(())
 }

@@ -1,15 +1,13 @@
-// What a rescue of a damaged store answers, and what becomes of one block.
+// Why a rescue of a damaged store refuses, and what becomes of one block.
 ghost use Rattle.store_block.specs.Block.{BlockGood};
 ghost use Rattle.store_order_table.specs.Table.{block_at};
 ghost use Rattle.store_rescue.specs.Listed.{Listed, Next, Judged};
 
 use crate::state::BlockState;
 use store_block::offsets::{BLOCK_BYTES, KEY};
-use store_layout::KeyPlace;
 
-#[derive(Drop)]
-pub enum Rescued {
-    Done,
+#[derive(Clone, Copy, Debug, PartialEq, Eq)]
+pub enum RescueError {
     StoreBad,
     ReportBad,
 }
@@ -30,8 +28,8 @@ fn keep(store: &[u8], order: &mut [u8], kept: usize, i: usize) -> Step
     let s = a + KEY;
     let e = s + base_integers::as_usize::wide(store[a + 1]);
     match store_order_table::find(store, &order[0..kept], &store[s..e]) {
-        KeyPlace::At(_) => Step { byte: 4, kept },
-        KeyPlace::Gap(p) => {
+        Ok(_) => Step { byte: 4, kept },
+        Err(p) => {
             store_order_table::insert(order, kept, p, i as u8);
             Step {
                 byte: 1,

@@ -1,11 +1,8 @@
-use Prim.Native.Nat.{◌+◌, ◌*◌, ◌≤◌}
+use Prim.Native.Nat.{◌+◌, ◌*◌, ◌-◌}
 use mathlib.Core.Path.{◌≡◌}
 use Rattle.access_record.specs.Table.{acls_good}
 use Rattle.access_record.specs.Record.{acls_at}
 use Rattle.access_check.proofs.acls_good.Given as goal
 
-abbrev pub invariant-loop-left : goal.invariant-loop-left
-invariant-loop-left l = (l.at + l.left * 368 ≤ 2960) × (acls_good (acls_at l.device l.at l.left) ≡ acls_good (acls_at l.device 16 l.n))
-
-abbrev pub decreases-loop-left : goal.decreases-loop-left
-decreases-loop-left l = l.left
+abbrev pub invariant-loop-k : goal.invariant-loop-k
+invariant-loop-k l = acls_good (acls_at l.device (16 + l.k * 368) (l.n - l.k)) ≡ acls_good (acls_at l.device 16 l.n)

@@ -1,22 +1,19 @@
-use mathlib.Core.Path.{◌∙◌, sym, refl}
-use native.Mathlib.Omega.{arith}
-use Rattle.access_record.proofs.TableLaws.{stops, goes, scopes-test, scopes-end}
+use mathlib.Core.Path.{◌∙◌, sym, ap}
+use Rattle.base_definitions.specs.Lists.{all}
+use Rattle.access_record.specs.Table.{scope_good}
+use Rattle.access_record.proofs.TableLaws.{stops, goes, scopes-first, scopes-test, scopes-end}
 use Rattle.access_check.proofs.scopes_good.Goals as goal
 
-pub loop-left-init : goal.loop-left-init
-loop-left-init c = (c.requires, refl)
+pub loop-k-init : goal.loop-k-init
+loop-k-init c = ap (all scope_good) (scopes-first _ _ _)
 
 pub returns-then-not-scope_good : goal.returns-then-not-scope_good
 returns-then-not-scope_good c =
-    stops _ (scopes-test _ _ _ c.loop-left-test.true) c.loop-left.invariant.1
-    (sym c.scope_good.ensures ∙ c.if-not-scope_good.true)
+    stops _ (scopes-test _ _ _ _ c.loop-k-test.true) c.loop-k.invariant (sym c.scope_good.ensures ∙ c.if-not-scope_good.true)
 
-pub loop-left-preserved : goal.loop-left-preserved
-loop-left-preserved c = (
-  omega arith,
-  goes (scopes-test _ _ _ c.loop-left-test.true) c.loop-left.invariant.1
-      (sym c.scope_good.ensures ∙ c.if-not-scope_good.false),
-)
+pub loop-k-preserved : goal.loop-k-preserved
+loop-k-preserved c =
+    goes (scopes-test _ _ _ _ c.loop-k-test.true) c.loop-k.invariant (sym c.scope_good.ensures ∙ c.if-not-scope_good.false)
 
 pub returns : goal.returns
-returns c = sym (scopes-end _ _ _ c.loop-left-test.false) ∙ c.loop-left.invariant.1
+returns c = sym (scopes-end _ _ _ _ c.loop-k-test.false) ∙ c.loop-k.invariant

@@ -1,35 +1,12 @@
-use Prim.Native.Nat.{ℕ}
+use Prim.Native.Nat.{ℕ, ◌+◌, ◌-◌}
 use native.Mathlib.Omega.{arith}
-use native.Mathlib.Nat.{le_antisymm}
-use mathlib.Core.Path.{ap}
-use lib.ListN.{replicate}
-use Rattle.access_record_bytes.specs.WroteLaws.{wrote-start, wrote-zero, renamed}
+use mathlib.Core.Path.{◌≡◌, ◌∙◌, ap}
+use lib.ListN.{length, replicate, take, drop, length-take, length-drop, length-replicate}
+use Rattle.access_record_bytes.specs.WroteLaws.{wrote-part}
 use Rattle.access_record_bytes.proofs.put_zeros.Goals as goal
-
-pub loop-i-init : goal.loop-i-init
-loop-i-init c = (omega arith, wrote-start _ _ (omega arith))
-
-pub overflow_add-out : goal.overflow_add-out
-overflow_add-out c = omega arith
-
-pub bounds-out-at : goal.bounds-out-at
-bounds-out-at c = omega arith
-
-pub overflow_add-i : goal.overflow_add-i
-overflow_add-i c = omega arith
-
-pub loop-i-smaller : goal.loop-i-smaller
-loop-i-smaller c = omega arith
-
-pub loop-i-preserved : goal.loop-i-preserved
-loop-i-preserved c = (omega arith, wrote-zero _ _ (omega arith) c.loop-i.invariant.1)
-
-pub overflow_add-result : goal.overflow_add-result
-overflow_add-result c = omega arith
-
-pub shape_of-out : goal.shape_of-out
-shape_of-out c = omega arith
 
 pub returns : goal.returns
 returns c =
-    renamed (ap (λ (k : ℕ). replicate k 0) (le_antisymm c.loop-i.invariant.0 c.loop-i-test.false)) c.loop-i.invariant.1
+    let a = c.args in
+    let part : length (take (a.at + a.n - a.at) (drop a.at a.out.now)) ≡ a.n = simp (length-take, length-drop) (omega arith) in
+    wrote-part _ _ _ (c.fill.ensures.after (λ y e. e) ∙ ap (λ (n : ℕ). replicate n 0) part) (length-replicate _ _) c.requires

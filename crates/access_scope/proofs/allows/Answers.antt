@@ -13,7 +13,7 @@ allowed-plain false = refl
 
 pub returns-then-protected : goal.returns-then-protected
 returns-then-protected c =
-    allowed-yes (not (not (eqb c.args.tls 0))) ∙ ap (◌||◌ (not (not (eqb c.args.tls 0)))) (sym c.if-protected.true)
+    c.if-protected.true ∙ allowed-yes (not (not (eqb c.args.tls 0))) ∙ ap (◌||◌ (not (not (eqb c.args.tls 0)))) (sym c.if-protected.true)
 
-pub returns : goal.returns
-returns c = allowed-plain (eqb c.args.tls 0) ∙ ap (◌||◌ (not (not (eqb c.args.tls 0)))) (sym c.if-protected.false)
+pub returns-else-protected : goal.returns-else-protected
+returns-else-protected c = allowed-plain (eqb c.args.tls 0) ∙ ap (◌||◌ (not (not (eqb c.args.tls 0)))) (sym c.if-protected.false)

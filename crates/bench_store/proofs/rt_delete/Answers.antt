@@ -1,7 +1,6 @@
 use mathlib.Core.Path.{◌≡◌, ◌∙◌, sym}
-use mathlib.Core.Bool.{true}
+use mathlib.Core.Bool.{true, false}
 use Rattle.store_layout.specs.Store.{store_good}
-use Rattle.store_layout.specs.declared.DeleteAnswer.TheVariants.{Deleted, Missing}
 use Rattle.bench_store.specs.CallsLaws.{good-store, not-deleted, delete-as}
 use Rattle.bench_store.proofs.rt_delete.Goals as goal
 use Rattle.bench_store.proofs.rt_delete.Goals.{Else-not-check}
@@ -15,8 +14,8 @@ returns-then-not-check c = not-deleted c.args.store.now c.args.key.now (sym c.ch
 pub delete-requires : goal.delete-requires
 delete-requires c = good-store c.args.store.now (good (goal.at.delete-requires c).Else-not-check)
 
-pub returns-in-Deleted : goal.returns-in-Deleted
-returns-in-Deleted c = delete-as c.args.store.now c.args.key.now (good (goal.at.returns-in-Deleted c).Else-not-check) c.delete.ensures.value c.delete.ensures.store_after Deleted c.in-Deleted.is
+pub returns-then-delete : goal.returns-then-delete
+returns-then-delete c = delete-as c.args.store.now c.args.key.now (good (goal.at.returns-then-delete c).Else-not-check) c.delete.ensures.value c.delete.ensures.store_after true c.if-delete.true
 
-pub returns-in-Missing : goal.returns-in-Missing
-returns-in-Missing c = delete-as c.args.store.now c.args.key.now (good (goal.at.returns-in-Missing c).Else-not-check) c.delete.ensures.value c.delete.ensures.store_after Missing c.in-Missing.is
+pub returns-else-delete : goal.returns-else-delete
+returns-else-delete c = delete-as c.args.store.now c.args.key.now (good (goal.at.returns-else-delete c).Else-not-check) c.delete.ensures.value c.delete.ensures.store_after false c.if-delete.false

@@ -1,8 +1,9 @@
-use mathlib.Core.Path.{◌≡◌, ◌∙◌, sym}
+use mathlib.Core.Path.{◌≡◌, ◌∙◌, sym, ap}
 use mathlib.Core.Bool.{true}
 use Rattle.store_block.specs.Entry.{entry}
 use Rattle.store_layout.specs.Store.{store_good}
-use Rattle.store_layout.specs.declared.PutAnswer.TheVariants.{Stored, Full, Unfit}
+use Rattle.std.specs.Prelude.{Ok, Err}
+use Rattle.store_layout.specs.declared.PutError.TheVariants.{Full, Unfit}
 use Rattle.bench_store.specs.CallsLaws.{good-store, not-put, not-sized, put_as}
 use Rattle.bench_store.proofs.rt_put.Goals as goal
 use Rattle.bench_store.proofs.rt_put.Goals.{Else-not-check}
@@ -25,17 +26,17 @@ put-requires c =
     let z = c.args in
     (good-store z.store.now (good (goal.at.put-requires c).Else-not-check), (c.sized.ensures z.algorithm).yes c.if-not-sized.false)
 
-pub returns-in-Stored : goal.returns-in-Stored
-returns-in-Stored c =
+pub returns-in-Ok : goal.returns-in-Ok
+returns-in-Ok c =
     let z = c.args in
-    put_as z.store.now (entry z.key.now z.version.now z.tag.now z.value.now z.algorithm) (good (goal.at.returns-in-Stored c).Else-not-check) c.put.ensures.value c.put.ensures.store_after Stored c.in-Stored.is
+    put_as z.store.now (entry z.key.now z.version.now z.tag.now z.value.now z.algorithm) (good (goal.at.returns-in-Ok c).Else-not-check) c.put.ensures.value c.put.ensures.store_after (Ok tt) c.in-Ok.is
 
-pub returns-in-Full : goal.returns-in-Full
-returns-in-Full c =
+pub returns-in-Err-Full : goal.returns-in-Err-Full
+returns-in-Err-Full c =
     let z = c.args in
-    put_as z.store.now (entry z.key.now z.version.now z.tag.now z.value.now z.algorithm) (good (goal.at.returns-in-Full c).Else-not-check) c.put.ensures.value c.put.ensures.store_after Full c.in-Full.is
+    put_as z.store.now (entry z.key.now z.version.now z.tag.now z.value.now z.algorithm) (good (goal.at.returns-in-Err-Full c).Else-not-check) c.put.ensures.value c.put.ensures.store_after (Err Full) (c.in-Err-Full.is ∙ ap Err c.in-Err-Full.field-0-is)
 
-pub returns-in-Unfit : goal.returns-in-Unfit
-returns-in-Unfit c =
+pub returns-in-Err-Unfit : goal.returns-in-Err-Unfit
+returns-in-Err-Unfit c =
     let z = c.args in
-    put_as z.store.now (entry z.key.now z.version.now z.tag.now z.value.now z.algorithm) (good (goal.at.returns-in-Unfit c).Else-not-check) c.put.ensures.value c.put.ensures.store_after Unfit c.in-Unfit.is
+    put_as z.store.now (entry z.key.now z.version.now z.tag.now z.value.now z.algorithm) (good (goal.at.returns-in-Err-Unfit c).Else-not-check) c.put.ensures.value c.put.ensures.store_after (Err Unfit) (c.in-Err-Unfit.is ∙ ap Err c.in-Err-Unfit.field-0-is)

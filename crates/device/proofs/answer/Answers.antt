@@ -38,10 +38,10 @@ returns-then-not-record_good c =
     let s = lent c.args.store.now c.args.device.now c.args.readings.now (connection_of c.args.connection) in
     (told-device-bad s c.args.out.now c.args.input.now (device-bad box s (length c.args.out.now) c.args.input.now (le-ltb _ _ c.if-out-lt4096.false) (sym c.check.ensures ∙ c.if-not-check.false) (sym c.record_good.ensures ∙ c.if-not-record_good.true)), below c.args.connection.number c.well_formed.1.1.1.0.1.1.0.1)
 
-pub returns-then-closed : goal.returns-then-closed
-returns-then-closed c =
+pub returns-then-connection : goal.returns-then-connection
+returns-then-connection c =
     let s = lent c.args.store.now c.args.device.now c.args.readings.now (connection_of c.args.connection) in
-    (told-closed s c.args.out.now c.args.input.now (closed-before box s (length c.args.out.now) c.args.input.now (le-ltb _ _ c.if-out-lt4096.false) (sym c.check.ensures ∙ c.if-not-check.false) (sym c.record_good.ensures ∙ c.if-not-record_good.false) c.if-closed.true), below c.args.connection.number c.well_formed.1.1.1.0.1.1.0.1)
+    (told-closed s c.args.out.now c.args.input.now (closed-before box s (length c.args.out.now) c.args.input.now (le-ltb _ _ c.if-out-lt4096.false) (sym c.check.ensures ∙ c.if-not-check.false) (sym c.record_good.ensures ∙ c.if-not-record_good.false) c.if-connection.true), below c.args.connection.number c.well_formed.1.1.1.0.1.1.0.1)
 
 pub answer_frame-requires : goal.answer_frame-requires
 answer_frame-requires c = (c.if-out-lt4096.false, (store-decides c.args.store.now).yes (sym c.check.ensures ∙ c.if-not-check.false), sym c.record_good.ensures ∙ c.if-not-record_good.false)
@@ -50,6 +50,6 @@ pub returns : goal.returns
 returns c =
     let s = lent c.args.store.now c.args.device.now c.args.readings.now (connection_of c.args.connection) in (
       c.answer_frame.ensures
-          ∙ ap (afterwards s c.args.out.now) (sym (not-refused box s (length c.args.out.now) c.args.input.now (le-ltb _ _ c.if-out-lt4096.false) (sym c.check.ensures ∙ c.if-not-check.false) (sym c.record_good.ensures ∙ c.if-not-record_good.false) c.if-closed.false)),
+          ∙ ap (afterwards s c.args.out.now) (sym (not-refused box s (length c.args.out.now) c.args.input.now (le-ltb _ _ c.if-out-lt4096.false) (sym c.check.ensures ∙ c.if-not-check.false) (sym c.record_good.ensures ∙ c.if-not-record_good.false) c.if-connection.false)),
       below c.args.connection.number c.well_formed.1.1.1.0.1.1.0.1,
     )

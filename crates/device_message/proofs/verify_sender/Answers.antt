@@ -4,7 +4,6 @@ use mathlib.Core.List.{List}
 use Prim.Native.Nat.{ℕ, ◌≤◌}
 use native.Mathlib.Omega.{arith}
 use lib.ListN.{length, length-take}
-use borrow.Author.Tests.{not-true, not-false}
 use Rattle.base_integers.specs.Signed.{word_of}
 use Rattle.access_record.specs.Table.{acl_of}
 use Rattle.access_record.specs.Record.{table_of, Placed}

@@ -1,15 +1,20 @@
-use native.Mathlib.Omega.{arith}
-use Rattle.fields_repeated.proofs.Nexts.{found_at, bounds-word, next_word, no_word}
+use Rattle.std.specs.Prelude.{Some, None}
+use Rattle.fields_repeated.proofs.Nexts.{found_at, none-word, no-word, next-word}
 use Rattle.fields_repeated.proofs.next_num.Goals as goal
 
-pub overflow_add-result : goal.overflow_add-result
-overflow_add-result c = let z = c.before.before.before.before.before.before.before in let s = z.args.s.now in let f = c.next_numbered in let h = found_at s z.args.left z.args.n f.result f.ensures in let x = c.word_of-x in let w = bounds-word s z.args.left z.args.n z.requires f.result x.result h x.ensures c.if-has.true in record { fits = omega arith }
+pub returns-in_err-f : goal.returns-in_err-f
+returns-in_err-f c =
+    let a = c.args in
+    none-word a.s.now a.left a.n c.requires (found_at a.s.now a.left a.n None c.in_err-f.ensures) c.from_residual.result c.from_residual.ensures
 
-pub overflow_sub-result : goal.overflow_sub-result
-overflow_sub-result c = let z = c.before.before.before.before.before.before.before.before.before in let s = z.args.s.now in let f = c.next_numbered in let h = found_at s z.args.left z.args.n f.result f.ensures in let x = c.word_of-x in let w = bounds-word s z.args.left z.args.n z.requires f.result x.result h x.ensures c.if-has.true in omega arith
-
-pub returns-then-has : goal.returns-then-has
-returns-then-has c = let z = c.before.before.before.before.before.before.before.before.before in let s = z.args.s.now in let f = c.next_numbered in let h = found_at s z.args.left z.args.n f.result f.ensures in let x = c.word_of-x in next_word s z.args.left z.args.n z.requires f.result x.result h x.ensures c.if-has.true
+pub returns-in_default : goal.returns-in_default
+returns-in_default c =
+    let a = c.args in
+    let f = c.in_ok-f in
+    no-word a.s.now a.left a.n c.requires f.f (found_at a.s.now a.left a.n (Some f.f) f.ensures) c.in_default.not-Varint
 
 pub returns : goal.returns
-returns c = let z = c.before.before.before.before.before.before.before in let s = z.args.s.now in let f = c.next_numbered in let h = found_at s z.args.left z.args.n f.result f.ensures in let x = c.word_of-x in let b = c.no_part in no_word s z.args.left z.args.n z.requires f.result x.result b.result h x.ensures c.if-has.false b.ensures
+returns c =
+    let a = c.args in
+    let f = c.in_ok-f in
+    next-word a.s.now a.left a.n c.requires f.f (found_at a.s.now a.left a.n (Some f.f) f.ensures) c.in-Varint.is

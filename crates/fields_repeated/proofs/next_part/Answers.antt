@@ -1,18 +1,20 @@
-use native.Mathlib.Omega.{arith}
-use Rattle.fields_repeated.proofs.Nexts.{found_at, bounds-span, next-span, no_span}
+use Rattle.std.specs.Prelude.{Some, None}
+use Rattle.fields_repeated.proofs.Nexts.{found_at, none-span, no-span, next-span}
 use Rattle.fields_repeated.proofs.next_part.Goals as goal
 
-pub overflow_add-result : goal.overflow_add-result
-overflow_add-result c = let z = c.before.before.before.before.before.before.before in let s = z.args.s.now in let f = c.next_numbered in let h = found_at s z.args.left z.args.n f.result f.ensures in let x = c.span_of-x in let w = bounds-span s z.args.left z.args.n z.requires f.result x.result h x.ensures c.if-has.true in record { fits = omega arith }
+pub returns-in_err-found : goal.returns-in_err-found
+returns-in_err-found c =
+    let a = c.args in
+    none-span a.s.now a.left a.n c.requires (found_at a.s.now a.left a.n None c.in_err-found.ensures) c.from_residual.result c.from_residual.ensures
 
-pub overflow_add-result-then-has : goal.overflow_add-result-then-has
-overflow_add-result-then-has c = let z = c.before.before.before.before.before.before.before.before in let s = z.args.s.now in let f = c.next_numbered in let h = found_at s z.args.left z.args.n f.result f.ensures in let x = c.span_of-x in let w = bounds-span s z.args.left z.args.n z.requires f.result x.result h x.ensures c.if-has.true in record { fits = omega arith }
-
-pub overflow_sub-result : goal.overflow_sub-result
-overflow_sub-result c = let z = c.before.before.before.before.before.before.before.before.before.before in let s = z.args.s.now in let f = c.next_numbered in let h = found_at s z.args.left z.args.n f.result f.ensures in let x = c.span_of-x in let w = bounds-span s z.args.left z.args.n z.requires f.result x.result h x.ensures c.if-has.true in omega arith
-
-pub returns-then-has : goal.returns-then-has
-returns-then-has c = let z = c.before.before.before.before.before.before.before.before.before.before in let s = z.args.s.now in let f = c.next_numbered in let h = found_at s z.args.left z.args.n f.result f.ensures in let x = c.span_of-x in next-span s z.args.left z.args.n z.requires f.result x.result h x.ensures c.if-has.true
+pub returns-in_default : goal.returns-in_default
+returns-in_default c =
+    let a = c.args in
+    let f = c.in_ok-found in
+    no-span a.s.now a.left a.n c.requires f.found (found_at a.s.now a.left a.n (Some f.found) f.ensures) c.in_default.not-Len
 
 pub returns : goal.returns
-returns c = let z = c.before.before.before.before.before.before.before.before in let s = z.args.s.now in let f = c.next_numbered in let h = found_at s z.args.left z.args.n f.result f.ensures in let x = c.span_of-x in let a = c.no_part in let b = c.no_part-2 in no_span s z.args.left z.args.n z.requires f.result x.result a.result b.result h x.ensures c.if-has.false a.ensures b.ensures
+returns c =
+    let a = c.args in
+    let f = c.in_ok-found in
+    next-span a.s.now a.left a.n c.requires f.found (found_at a.s.now a.left a.n (Some f.found) f.ensures) c.in-Len.is

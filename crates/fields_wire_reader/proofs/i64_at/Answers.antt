@@ -1,10 +1,11 @@
-use lib.ListN.{drop}
+use Rattle.std.proofs.Common.{arith}
 use Rattle.fields_wire_reader.proofs.FieldPlaces.{i64-of, i64-cut}
-use borrow.Author.Rules.{rules}
 use Rattle.fields_wire_reader.proofs.i64_at.Goals as goal
 
 pub returns-then-s-at-ge8 : goal.returns-then-s-at-ge8
-returns-then-s-at-ge8 c = let a = c.args in let s = a.s.now in let xs = drop a.at s in (i64-of _ s a.at c.if-s-at-ge8.true, search rules)
+returns-then-s-at-ge8 c =
+    let s = c.args.s.now in
+    (i64-of _ s c.args.at c.if-s-at-ge8.true, record { after = omega arith; inside = omega (arith, c.if-s-at-ge8.true); bytes = tt })
 
 pub returns : goal.returns
-returns c = let a = c.args in let s = a.s.now in let xs = drop a.at s in (i64-cut _ s a.at c.if-s-at-ge8.false, tt)
+returns c = (i64-cut _ c.args.s.now c.args.at c.if-s-at-ge8.false, tt)

@@ -1,17 +1,22 @@
-use lib.ListN.{drop}
-use Rattle.fields_wire_reader.proofs.FieldPlaces.{len_of, len-none, len-cut}
-use Rattle.fields_wire.proofs.VarintPlaces.{ends_at, says, says-bad}
-use native.Mathlib.Omega.{arith}
+use Rattle.std.proofs.Common.{drop, sym, arith, refl}
+use Rattle.fields_wire_reader.proofs.FieldPlaces.{len_of, len-none, len-cut, no-found}
 use Rattle.fields_wire_reader.proofs.len_at.Goals as goal
 
-pub overflow_sub-s : goal.overflow_sub-s
-overflow_sub-s c = let a = c.args in let s = a.s.now in let xs = drop a.at s in let e = ends_at s a.at c.in-Read.is c.read_varint.ensures.1 in omega arith
+pub returns-in_err-v : goal.returns-in_err-v
+returns-in_err-v c =
+    let s = c.args.s.now in
+    no-found s c.args.at c.from_residual.result c.from_residual.ensures (len-none _ (drop c.args.at s) (sym c.in_err-v.ensures.0))
 
 pub returns-then-len-s : goal.returns-then-len-s
-returns-then-len-s c = let a = c.args in let s = a.s.now in let xs = drop a.at s in let q = c.in-Read in let r = c.read_varint.ensures in let e = ends_at s a.at q.is r.1 in (len_of _ s xs q.next (says s xs q.is r.0) c.if-len-s.true, omega arith)
+returns-then-len-s c =
+    let s = c.args.s.now in
+    let v = c.in_ok-v in
+    let e = v.ensures in (
+      len_of _ s (drop c.args.at s) v.v.next (sym e.0) c.if-len-s.true,
+      record { after = omega (arith, e.1.0); inside = omega (arith, e.1.1, c.if-len-s.true); bytes = (refl, e.1.0) },
+    )
 
-pub returns-in-Bad : goal.returns-in-Bad
-returns-in-Bad c = let a = c.args in let s = a.s.now in let xs = drop a.at s in (len-none _ xs (says-bad s xs c.in-Bad.is c.read_varint.ensures.0), tt)
-
-pub returns-else-len-s : goal.returns-else-len-s
-returns-else-len-s c = let a = c.args in let s = a.s.now in let xs = drop a.at s in let q = c.in-Read in let r = c.read_varint.ensures in (len-cut _ s xs q.next (says s xs q.is r.0) c.if-len-s.false, tt)
+pub returns : goal.returns
+returns c =
+    let s = c.args.s.now in
+    (len-cut _ s (drop c.args.at s) c.in_ok-v.v.next (sym c.in_ok-v.ensures.0) c.if-len-s.false, tt)

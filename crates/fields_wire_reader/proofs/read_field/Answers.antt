@@ -1,20 +1,19 @@
-use lib.ListN.{drop}
-use Rattle.fields_wire_reader.proofs.FieldPlaces.{field_of, field-none, field-big, field-zero, ends-later}
-use Rattle.fields_wire.proofs.VarintPlaces.{ends_at, says, says-bad}
-use native.Mathlib.Omega.{arith}
+use Rattle.std.proofs.Common.{drop, sym, arith}
+use Rattle.fields_wire_reader.proofs.FieldPlaces.{field_of, field-none, field-refused, ends-later, no-found}
 use Rattle.fields_wire_reader.proofs.read_field.Goals as goal
 
-pub value_at-requires : goal.value_at-requires
-value_at-requires c = let a = c.args in let s = a.s.now in let xs = drop a.at s in let q = c.in-Read in let r = c.read_varint.ensures in let e = ends_at s a.at q.is r.1 in omega arith
+pub returns-in_err-tag : goal.returns-in_err-tag
+returns-in_err-tag c =
+    let s = c.args.s.now in
+    no-found s c.args.at c.from_residual.result c.from_residual.ensures (field-none (drop c.args.at s) (sym c.in_err-tag.ensures.0))
 
-pub returns-then-value-gt7 : goal.returns-then-value-gt7
-returns-then-value-gt7 c = let a = c.args in let s = a.s.now in let xs = drop a.at s in let q = c.in-Read in let r = c.read_varint.ensures in let e = ends_at s a.at q.is r.1 in (field_of xs (says s xs q.is r.0) c.if-value-lt4294967296.true c.if-value-gt7.true c.value_at.ensures.0, ends-later s a.at q.next c.value_at.result (omega arith) c.value_at.ensures.1)
+pub returns-then-tag-lt-LEAST_TAG : goal.returns-then-tag-lt-LEAST_TAG
+returns-then-tag-lt-LEAST_TAG c = (field-refused (drop c.args.at c.args.s.now) (sym c.in_ok-tag.ensures.0) c.then-tag-lt-LEAST_TAG.either, tt)
 
-pub returns-in-Bad : goal.returns-in-Bad
-returns-in-Bad c = let a = c.args in let s = a.s.now in let xs = drop a.at s in (field-none xs (says-bad s xs c.in-Bad.is c.read_varint.ensures.0), tt)
-
-pub returns-else-value-gt7 : goal.returns-else-value-gt7
-returns-else-value-gt7 c = let a = c.args in let s = a.s.now in let xs = drop a.at s in let q = c.in-Read in let r = c.read_varint.ensures in (field-zero xs (says s xs q.is r.0) c.if-value-lt4294967296.true c.if-value-gt7.false, tt)
-
-pub returns-else-value-lt4294967296 : goal.returns-else-value-lt4294967296
-returns-else-value-lt4294967296 c = let a = c.args in let s = a.s.now in let xs = drop a.at s in let q = c.in-Read in let r = c.read_varint.ensures in (field-big xs (says s xs q.is r.0) c.if-value-lt4294967296.false, tt)
+pub returns : goal.returns
+returns c =
+    let s = c.args.s.now in
+    let e = c.in_ok-tag.ensures in (
+      field_of (drop c.args.at s) (sym e.0) c.if-tag-ge-TAGS_END.false (omega (arith, c.if-tag-lt-LEAST_TAG.false)) c.value_at.ensures.0,
+      ends-later s c.args.at c.in_ok-tag.tag.next c.value_at.result (omega (arith, e.1)) c.value_at.ensures.1,
+    )

@@ -1,4 +1,4 @@
-use native.Mathlib.Omega.{arith}
+use Rattle.std.proofs.Common.{arith}
 use Rattle.fields_write_bytes.proofs.PushedLaws.{pushed_none, again}
 use Rattle.fields_write_bytes.proofs.TreePartsLaws.{zero-none, nonzero-some}
 use Rattle.fields_write_optional.proofs.push_nonzero.Goals as goal
@@ -6,11 +6,5 @@ use Rattle.fields_write_optional.proofs.push_nonzero.Goals as goal
 pub returns-then-v-eq0 : goal.returns-then-v-eq0
 returns-then-v-eq0 c = (again (zero-none _ _ c.if-v-eq0.true) (pushed_none _ _ c.requires.2), omega arith)
 
-pub push_int-requires : goal.push_int-requires
-push_int-requires c = omega arith
-
-pub shape_of-out : goal.shape_of-out
-shape_of-out c = omega arith
-
-pub returns : goal.returns
-returns c = let w = c.push_int.ensures in (again (nonzero-some _ _ c.if-v-eq0.false) w.0, w.1)
+pub returns-else-v-eq0 : goal.returns-else-v-eq0
+returns-else-v-eq0 c = let w = c.push_int.ensures in (again (nonzero-some _ _ c.if-v-eq0.false) w.0, w.1)

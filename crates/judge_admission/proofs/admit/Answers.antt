@@ -2,17 +2,14 @@ use mathlib.Core.Path.{ap}
 use mathlib.Core.Bool.{not}
 use Rattle.access_record.specs.Table.{acl_of}
 use Rattle.access_record.specs.Record.{table_of}
+use Rattle.protocol.specs.Failure.{fault_of}
 use Rattle.request_command.specs.Views.{body_view}
-use Rattle.judge_admission.specs.AdmissionLaws.{faulty, forbidden, allowed}
+use Rattle.judge_admission.specs.AdmissionLaws.{forbidden, allowed}
 use Rattle.judge_admission.proofs.Keys.{end_fits, key-cut}
 use Rattle.judge_admission.proofs.admit.Goals as goal
 
-pub body_fault-fault-requires : goal.body_fault-fault-requires
-body_fault-fault-requires c = c.requires.1
-
-pub returns-then-fault-ne0 : goal.returns-then-fault-ne0
-returns-then-fault-ne0 c =
-    λ v e. faulty (acl_of (table_of c.args.device.now) c.args.acl) c.args.protected c.args.choice (body_view c.args.command.now c.args.body) v (c.body_fault-fault.ensures v e) c.if-fault-ne0.true
+pub body_fault-requires : goal.body_fault-requires
+body_fault-requires c = c.requires.1
 
 pub overflow_add-key : goal.overflow_add-key
 overflow_add-key c = end_fits c.args.command.now c.args.body.entry.key c.well_formed.1.1.1.1.0.0 c.requires.1.entry.key.inside
@@ -25,8 +22,8 @@ permitted-requires c = (c.requires.0, c.requires.2)
 
 pub returns-then-not-permitted : goal.returns-then-not-permitted
 returns-then-not-permitted c =
-    λ v e. forbidden (acl_of (table_of c.args.device.now) c.args.acl) c.args.protected c.args.choice (body_view c.args.command.now c.args.body) v (c.body_fault-fault.ensures v e) c.if-fault-ne0.false (c.permitted.ensures (body_view c.args.command.now c.args.body) (key-cut c.args.command.now c.args.body c.requires.1)) (ap not c.if-not-permitted.true)
+    λ v e. forbidden (acl_of (table_of c.args.device.now) c.args.acl) c.args.protected c.args.choice (body_view c.args.command.now c.args.body) v (c.body_fault.ensures v e) (ap fault_of c.in_ok-body_fault.was) (c.permitted.ensures (body_view c.args.command.now c.args.body) (key-cut c.args.command.now c.args.body c.requires.1)) (ap not c.if-not-permitted.true)
 
 pub returns : goal.returns
 returns c =
-    λ v e. allowed (acl_of (table_of c.args.device.now) c.args.acl) c.args.protected c.args.choice (body_view c.args.command.now c.args.body) v (c.body_fault-fault.ensures v e) c.if-fault-ne0.false (c.permitted.ensures (body_view c.args.command.now c.args.body) (key-cut c.args.command.now c.args.body c.requires.1)) (ap not c.if-not-permitted.false)
+    λ v e. allowed (acl_of (table_of c.args.device.now) c.args.acl) c.args.protected c.args.choice (body_view c.args.command.now c.args.body) v (c.body_fault.ensures v e) (ap fault_of c.in_ok-body_fault.was) (c.permitted.ensures (body_view c.args.command.now c.args.body) (key-cut c.args.command.now c.args.body c.requires.1)) (ap not c.if-not-permitted.false)

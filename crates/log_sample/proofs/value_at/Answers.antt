@@ -18,8 +18,8 @@ returns-then-temperature c =
     ∙ temperature-value l a.place
     ∙ ap (λ (t : Bool). (sample_of t (place_at l a.place)).value) (sym c.if-temperature.true)
 
-pub returns : goal.returns
-returns c =
+pub returns-else-temperature : goal.returns-else-temperature
+returns-else-temperature c =
     let k = c.before.before in
     let a = k.args in
     let l = a.s.now in

@@ -10,8 +10,8 @@ returns-then-inclusive c =
     let k = c.args.key.now in
     c.first_from.ensures c.requires ∙ ap (λ b. cond b (below k es) (up_to k es)) (sym c.if-inclusive.true)
 
-pub returns : goal.returns
-returns c =
+pub returns-else-inclusive : goal.returns-else-inclusive
+returns-else-inclusive c =
     let es = entries_of c.args.store.now in
     let k = c.args.key.now in
     c.first_above.ensures c.requires ∙ ap (λ b. cond b (below k es) (up_to k es)) (sym c.if-inclusive.false)

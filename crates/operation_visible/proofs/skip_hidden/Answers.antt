@@ -1,43 +1,41 @@
-use Prim.Native.Nat.{◌-◌}
 use native.Mathlib.Omega.{arith}
 use mathlib.Core.Path.{refl, sym, ap, ◌∙◌}
 use Rattle.store_layout.specs.Store.{entries_of}
-use Rattle.operation_visible.specs.Runs.{skipped_from}
-use Rattle.operation_visible.specs.RunLaws.{skip-found, skip-hidden, skip-end, onward-less}
+use Rattle.operation_visible.specs.declared.Run.{Run}
+use Rattle.operation_visible.specs.Runs.{skipped}
+use Rattle.operation_visible.specs.RunLaws.{skip-found, skip-hidden, skip-end}
 use Rattle.operation_visible.specs.Seen.{seen_by}
 use Rattle.operation_visible.proofs.skip_hidden.Goals as goal
 
-pub loop-count-init : goal.loop-count-init
-loop-count-init c = (c.requires.3, refl)
+pub loop-left-init : goal.loop-left-init
+loop-left-init c = (c.requires.3, refl)
 
 pub returns-then-is_visible : goal.returns-then-is_visible
 returns-then-is_visible c =
-    let o = c.loop-count in
+    let o = c.loop-left in
+    let r = o.left in
     let f = seen_by c.args.device.now c.args.viewer c.args.permission in
-    (skip-found f (entries_of c.args.store.now) c.args.run.reverse o.first o.count c.loop-count-test.true (sym c.is_visible.ensures ∙ c.if-is_visible.true) ∙ o.invariant.1, o.invariant.0)
+    (skip-found f (entries_of c.args.store.now) r.reverse r.first r.count c.loop-left-test.true (sym c.is_visible.ensures ∙ c.if-is_visible.true) ∙ o.invariant.1, o.invariant.0)
 
-pub next_place-first-requires : goal.next_place-first-requires
-next_place-first-requires c = let o = c.loop-count in omega (arith, o.invariant.0)
+pub loop-left-smaller : goal.loop-left-smaller
+loop-left-smaller c = let more = c.loop-left-test.true in let e = ap (λ (r : Run). r.count) c.rest-left.ensures.0 in omega arith
 
-pub loop-count-smaller : goal.loop-count-smaller
-loop-count-smaller c = omega arith
-
-pub loop-count-preserved : goal.loop-count-preserved
-loop-count-preserved c =
-    let o = c.loop-count in
+pub loop-left-preserved : goal.loop-left-preserved
+loop-left-preserved c =
+    let o = c.loop-left in
+    let r = o.left in
     let es = entries_of c.args.store.now in
-    let b = c.args.run.reverse in
     let f = seen_by c.args.device.now c.args.viewer c.args.permission in
-    let more = c.loop-count-test.true in
-    let p = c.next_place-first.ensures in (
-      omega (arith, onward-less b o.first, p, o.invariant.0, more),
-      ap (λ i. skipped_from f es b i (o.count - 1)) p
-          ∙ sym (skip-hidden f es b o.first o.count more (sym c.is_visible.ensures ∙ c.if-is_visible.false))
+    let more = c.loop-left-test.true in (
+      c.rest-left.ensures.1,
+      ap (skipped f es) c.rest-left.ensures.0
+          ∙ sym (skip-hidden f es r.reverse r.first r.count more (sym c.is_visible.ensures ∙ c.if-is_visible.false))
           ∙ o.invariant.1,
     )
 
 pub returns : goal.returns
 returns c =
-    let o = c.loop-count in
+    let o = c.loop-left in
+    let r = o.left in
     let f = seen_by c.args.device.now c.args.viewer c.args.permission in
-    (skip-end f (entries_of c.args.store.now) c.args.run.reverse o.first o.count c.loop-count-test.false ∙ o.invariant.1, o.invariant.0)
+    (skip-end f (entries_of c.args.store.now) r.reverse r.first r.count c.loop-left-test.false ∙ o.invariant.1, o.invariant.0)

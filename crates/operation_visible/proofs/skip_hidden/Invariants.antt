@@ -1,12 +1,12 @@
 use Prim.Native.Nat.{◌+◌, ◌≤◌}
 use mathlib.Core.Path.{◌≡◌}
 use Rattle.store_layout.specs.Store.{entries_of}
-use Rattle.operation_visible.specs.Runs.{skipped_from}
+use Rattle.operation_visible.specs.Runs.{skipped}
 use Rattle.operation_visible.specs.Seen.{seen_by}
 use Rattle.operation_visible.proofs.skip_hidden.Given as goal
 
-abbrev pub invariant-loop-count : goal.invariant-loop-count
-invariant-loop-count l = (l.first + l.count ≤ 256) × (skipped_from (seen_by l.device l.viewer l.permission) (entries_of l.store) l.reverse l.first l.count ≡ skipped_from (seen_by l.device l.viewer l.permission) (entries_of l.store) l.reverse l.initial.first l.initial.count)
+abbrev pub invariant-loop-left : goal.invariant-loop-left
+invariant-loop-left l = (l.left.first + l.left.count ≤ 256) × (skipped (seen_by l.device l.viewer l.permission) (entries_of l.store) l.left ≡ skipped (seen_by l.device l.viewer l.permission) (entries_of l.store) l.initial.left)
 
-abbrev pub decreases-loop-count : goal.decreases-loop-count
-decreases-loop-count l = l.count
+abbrev pub decreases-loop-left : goal.decreases-loop-left
+decreases-loop-left l = l.left.count

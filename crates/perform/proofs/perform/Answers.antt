@@ -1,4 +1,5 @@
 use mathlib.Core.Path.{◌≡◌, refl, ap, subst}
+use mathlib.Core.Logic.{inl, inr}
 use mathlib.Core.List.{List, []}
 use Prim.Native.Nat.{ℕ}
 use Rattle.access_permission.specs.Permissions.{READ, RANGE}
@@ -37,12 +38,14 @@ secure-requires c =
     (c.requires.0, c.requires.1, record { inside = c.requires.3.security.inside; reads = c.requires.3.reads }, table-good c.args.command.now c.args.job.body c.args.value.now (passed c.args.command.now c.args.value.now c.args.job.body c.in-Security.is c.requires.4))
 
 pub returns-in-Noop : goal.returns-in-Noop
-returns-in-Noop c =
-    λ x _. performed c.args.command.now c.args.job.body c.args.value.now c.args.job.reply_to c.args.signing_key.now (lent c.args.store.now c.args.device.now c.args.readings.now x) (acl_of (table_of c.args.device.now) c.args.job.acl) c.requires.4 c.in-Noop.is (c.status.ensures (lent c.args.store.now c.args.device.now c.args.readings.now x))
-
-pub returns-in-FlushAllData : goal.returns-in-FlushAllData
-returns-in-FlushAllData c =
-    λ x _. performed c.args.command.now c.args.job.body c.args.value.now c.args.job.reply_to c.args.signing_key.now (lent c.args.store.now c.args.device.now c.args.readings.now x) (acl_of (table_of c.args.device.now) c.args.job.acl) c.requires.4 c.in-FlushAllData.is (c.status-in-FlushAllData.ensures (lent c.args.store.now c.args.device.now c.args.readings.now x))
+returns-in-Noop c = λ x _.
+    let z = c.args in
+    let s = lent z.store.now z.device.now z.readings.now x in
+    let a = acl_of (table_of z.device.now) z.job.acl in
+    elim c.in-Noop.is [
+      | inl e ↦ performed z.command.now z.job.body z.value.now z.job.reply_to z.signing_key.now s a c.requires.4 e (c.status.ensures s)
+      | inr e ↦ performed z.command.now z.job.body z.value.now z.job.reply_to z.signing_key.now s a c.requires.4 e (c.status.ensures s)
+    ]
 
 pub returns-in-Get : goal.returns-in-Get
 returns-in-Get c =

@@ -10,5 +10,5 @@ overflow_add-old c = let i = c.requires.3.expected.inside in let g = c.well_form
 pub returns : goal.returns
 returns c =
     has-changed c.args.reply_to c.args.signing_key.now
-    (c.delete-code.ensures (key_value_view c.args.command.now c.args.key_value) (deletes c.requires.3 c.flag_of-force.ensures))
+    (c.delete-done.ensures (key_value_view c.args.command.now c.args.key_value) (deletes c.requires.3 c.flag_of-force.ensures))
     c.reply_changed.ensures

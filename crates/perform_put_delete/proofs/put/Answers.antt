@@ -22,8 +22,8 @@ slice_bounds-put-end-4 c = let i = c.requires.3.tag.inside in omega arith
 pub overflow_cast-number_or : goal.overflow_cast-number_or
 overflow_cast-number_or c = let q = c.number_or.ensures in let h = c.requires.3.algorithm in omega arith
 
-pub put-code-requires : goal.put-code-requires
-put-code-requires c =
+pub put-done-requires : goal.put-done-requires
+put-done-requires c =
     (c.requires.2, fits c.requires.3 c.number_or.ensures c.args.value.now c.requires.4 c.requires.5)
 
 pub reply_changed-requires : goal.reply_changed-requires
@@ -32,5 +32,5 @@ reply_changed-requires c = (c.requires.0, c.requires.1)
 pub returns : goal.returns
 returns c =
     has-changed c.args.reply_to c.args.signing_key.now
-    (c.put-code.ensures (key_value_view c.args.command.now c.args.key_value) (puts c.requires.3 c.number_or.ensures c.flag_of.ensures))
+    (c.put-done.ensures (key_value_view c.args.command.now c.args.key_value) (puts c.requires.3 c.number_or.ensures c.flag_of.ensures))
     c.reply_changed.ensures

@@ -7,5 +7,5 @@ decreases-show g l = 2 * l.depth + 1
 abbrev pub decreases-show_field : goal.decreases-show_field
 decreases-show_field g l = 2 * l.depth
 
-abbrev pub decreases-show-loop-at : goal.decreases-show-loop-at
-decreases-show-loop-at g l = length l.s - l.at
+abbrev pub decreases-show-loop-f : goal.decreases-show-loop-f
+decreases-show-loop-f g l = length l.s - l.at

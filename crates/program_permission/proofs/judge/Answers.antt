@@ -1,12 +1,12 @@
 use mathlib.Core.Path.{◌∙◌, sym}
-use borrow.Author.Tests.{not-false}
 use Rattle.access_record.proofs.LookupLaws.{found-placed}
 use borrow.Author.Rules.{rules}
 use Rattle.program_permission.proofs.judge.Goals as goal
 
-pub find_identity-requires : goal.find_identity-requires
-find_identity-requires c = sym c.record_good.ensures ∙ c.if-not-record_good.false
+pub permits-yes-requires : goal.permits-yes-requires
+permits-yes-requires c =
+    (found-placed _ _ _ (sym c.record_good.ensures ∙ c.if-not-record_good.false) (sym c.find_identity.ensures ∙ c.in-Some.is), search rules)
 
-pub permits-requires : goal.permits-requires
-permits-requires c =
-    (found-placed _ _ _ (sym c.record_good.ensures ∙ c.if-not-record_good.false) (sym c.find_identity.ensures ∙ c.in-At.is), search rules)
+pub permits_any-yes-requires : goal.permits_any-yes-requires
+permits_any-yes-requires c =
+    (found-placed _ _ _ (sym c.record_good.ensures ∙ c.if-not-record_good.false) (sym c.find_identity.ensures ∙ c.in-Some.is), search rules)

@@ -10,9 +10,6 @@ loop-i-init c =
     let few = c.requires.0.few in
     (omega arith, omega arith, omega arith, samples-none a.n a.temperature a.readings.now a.first a.count c.requires.4)
 
-pub overflow_sub-i : goal.overflow_sub-i
-overflow_sub-i c = omega arith
-
 pub overflow_add-first : goal.overflow_add-first
 overflow_add-first c =
     let o = c.loop-i in
@@ -26,9 +23,6 @@ push_sample-p-requires c =
     let l = w.long in
     let h = w.fits in
     (c.requires.0.each (o.i - 1) (omega (arith, o.invariant.0)), c.requires.2, omega arith, omega arith)
-
-pub loop-i-smaller : goal.loop-i-smaller
-loop-i-smaller c = omega arith
 
 pub loop-i-preserved : goal.loop-i-preserved
 loop-i-preserved c =

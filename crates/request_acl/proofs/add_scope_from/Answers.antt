@@ -5,24 +5,23 @@ use Rattle.fields_lookup.proofs.SliceLaws.{slice_at}
 use Rattle.request_acl.proofs.Scopes.{slice-short, makes-no, sliced}
 use Rattle.request_acl.proofs.add_scope_from.Goals as goal
 
-pub read_scope-c-requires : goal.read_scope-c-requires
-read_scope-c-requires c = c.requires.2
+pub read_scope-requires : goal.read_scope-requires
+read_scope-requires c = c.requires.2
 
-pub returns-then-not-ok : goal.returns-then-not-ok
-returns-then-not-ok c = makes-no _ _ _ (sym c.read_scope-c.ensures.ok ∙ c.if-not-ok.true)
+pub returns-in_default : goal.returns-in_default
+returns-in_default c = makes-no _ _ _ c.in_default.ensures
 
 pub add_scope-requires : goal.add_scope-requires
 add_scope-requires c =
-    let r = c.read_scope-c in
-    (c.requires.0, c.requires.1, slice-short c.args.s.now r.result.value r.ensures.inside (r.ensures.short c.if-not-ok.false))
+    let r = c.in-Some in
+    (c.requires.0, c.requires.1, slice-short c.args.s.now r.c.value r.ensures.inside r.ensures.short)
 
 pub returns : goal.returns
 returns c =
-    let r = c.read_scope-c in
+    let r = c.in-Some in
     let s = c.args.s.now in
-    let y = c.if-not-ok.false in
     record {
-      answer = sym y ∙ r.ensures.ok;
+      answer = sym r.ensures.taken;
       made = λ w. c.add_scope.ensures
-          ∙ ap (λ (x : access.Scope). put_scope c.args.device.now c.args.place c.args.number x) (sliced s r.result (slice_at s r.result.value) ∙ r.ensures.says y);
+          ∙ ap (λ (x : access.Scope). put_scope c.args.device.now c.args.place c.args.number x) (sliced s r.c (slice_at s r.c.value) ∙ r.ensures.says);
     }

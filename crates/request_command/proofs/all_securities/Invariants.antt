@@ -5,8 +5,8 @@ use Rattle.fields_repeated.specs.Joins.{Joins}
 use Rattle.request_command.specs.Views.{CountIs}
 use Rattle.request_command.proofs.all_securities.Given as goal
 
-abbrev pub invariant-loop-left : goal.invariant-loop-left
-invariant-loop-left l = Joins (λ (t : Tree). CountIs t l.n) k.Body 2 l.s l.left (tree_in (sub_at 2 (tree_of k.Command (bytes_at l.s l.initial.left))))
+abbrev pub invariant-loop-part : goal.invariant-loop-part
+invariant-loop-part l = Joins (λ (t : Tree). CountIs t l.n) k.Body 2 l.s l.left (tree_in (sub_at 2 (tree_of k.Command (bytes_at l.s l.initial.left))))
 
-abbrev pub decreases-loop-left : goal.decreases-loop-left
-decreases-loop-left l = l.left.len
+abbrev pub decreases-loop-part : goal.decreases-loop-part
+decreases-loop-part l = l.left.len

@@ -9,7 +9,7 @@ returns c s =
     let k2 = c.either-2 in
     let y = c.merge_ranges in
     let k3 = c.either-3 in
-    let w = c.later_signed in
+    let w = c.later in
     let k6 = c.either-4 in
     let q = c.later_part in
     bodies-law s a.before a.after k1.result k2.result k3.result k6.result x.result y.result w.result q.result

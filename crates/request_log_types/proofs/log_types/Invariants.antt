@@ -11,8 +11,8 @@ use Rattle.request_log_types.proofs.log_types.Given as goal
 abbrev pub bodies : List ℕ → Tree
 bodies s = tree_in (sub_at 2 (tree_of k.Command s))
 
-abbrev pub invariant-loop-left : goal.invariant-loop-left
-invariant-loop-left l = Joins (λ (t : Tree). BodyTypes t l.mask) k.Body 2 l.s l.left (bodies l.s)
+abbrev pub invariant-loop-part : goal.invariant-loop-part
+invariant-loop-part l = Joins (λ (t : Tree). BodyTypes t l.mask) k.Body 2 l.s l.left (bodies l.s)
 
-abbrev pub decreases-loop-left : goal.decreases-loop-left
-decreases-loop-left l = l.left.len
+abbrev pub decreases-loop-part : goal.decreases-loop-part
+decreases-loop-part l = l.left.len

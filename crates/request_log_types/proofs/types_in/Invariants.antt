@@ -1,8 +1,8 @@
 use Rattle.request_log_types.proofs.Walk.{Walk}
 use Rattle.request_log_types.proofs.types_in.Given as goal
 
-abbrev pub invariant-loop-left : goal.invariant-loop-left
-invariant-loop-left l = Walk l.s l.initial.left l.left l.initial.mask l.mask
+abbrev pub invariant-loop-value : goal.invariant-loop-value
+invariant-loop-value l = Walk l.s l.initial.left l.left l.initial.mask l.mask
 
-abbrev pub decreases-loop-left : goal.decreases-loop-left
-decreases-loop-left l = l.left.len
+abbrev pub decreases-loop-value : goal.decreases-loop-value
+decreases-loop-value l = l.left.len

@@ -2,39 +2,34 @@ use mathlib.Core.Path.{refl}
 use Rattle.fields_schema.specs.Tree.{Tree, done}
 use Rattle.fields_schema.specs.declared.Kind.TheVariants as k
 use Rattle.fields_lookup.specs.Views.{bytes_at, tree_of}
-use Rattle.fields_repeated.specs.JoinsLaws.{joins-start, joins-empty, joins-end, joins-reads, joins-on}
+use Rattle.fields_repeated.specs.JoinsLaws.{joins-start, joins-end, joins-reads, joins-on}
 use Rattle.request_parts.specs.Views.{KeyValueIs}
 use Rattle.request_merged.proofs.read_key_values.Goals as goal
 
-pub loop-left-init : goal.loop-left-init
-loop-left-init c =
+pub loop-part-init : goal.loop-part-init
+loop-part-init c =
     let s = c.args.s.now in
     joins-start (λ (t : Tree). KeyValueIs s t c.no_key_value-e.result) k.KeyValue k.Body 1 s c.args.p c.requires.0 c.requires.1 refl done (c.no_key_value-e.ensures s)
 
-pub next_part-x-requires : goal.next_part-x-requires
-next_part-x-requires c = c.loop-left.invariant.inside
-
-pub returns-then-not-has : goal.returns-then-not-has
-returns-then-not-has c =
-    let x = c.next_part-x in
-    joins-end c.loop-left.invariant x.result x.ensures c.if-not-has.true
+pub next_part-requires : goal.next_part-requires
+next_part-requires c = c.loop-part.invariant.inside
 
 pub read_key_value-requires : goal.read_key_value-requires
 read_key_value-requires c =
-    let x = c.next_part-x in
-    joins-reads c.loop-left.invariant x.result x.ensures c.if-not-has.false
+    let x = c.in-Some in
+    joins-reads c.loop-part.invariant x.part x.rest x.ensures
 
-pub loop-left-smaller : goal.loop-left-smaller
-loop-left-smaller c = c.next_part-x.ensures.shorter c.if-not-has.false
+pub loop-part-smaller : goal.loop-part-smaller
+loop-part-smaller c = c.in-Some.ensures.1.shorter
 
-pub loop-left-preserved : goal.loop-left-preserved
-loop-left-preserved c =
-    let x = c.next_part-x in
+pub loop-part-preserved : goal.loop-part-preserved
+loop-part-preserved c =
+    let x = c.in-Some in
     let s = c.args.s.now in
     let q = c.read_key_value in
     let r = c.merge_key_values-e in
-    joins-on c.loop-left.invariant x.result x.ensures c.if-not-has.false (λ (t : Tree). KeyValueIs s t r.result)
-    (λ t h. r.ensures s t (tree_of k.KeyValue (bytes_at s x.result.part)) h q.ensures)
+    joins-on c.loop-part.invariant x.part x.rest x.ensures (λ (t : Tree). KeyValueIs s t r.result)
+    (λ t h. r.ensures s t (tree_of k.KeyValue (bytes_at s x.part)) h q.ensures)
 
 pub returns : goal.returns
-returns c = joins-empty c.loop-left.invariant c.loop-left-test.false
+returns c = joins-end c.loop-part.invariant c.in_default.ensures

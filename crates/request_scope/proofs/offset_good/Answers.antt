@@ -1,14 +1,9 @@
-use Rattle.access_record.specs.Table.{offset_good}
+use Rattle.base_integers.specs.Signed.{word_of}
+use Rattle.request_scope.proofs.Offsets.{offset-above, offset-below}
 use Rattle.request_scope.proofs.offset_good.Goals as goal
 
-pub returns-then-offset-lt0 : goal.returns-then-offset-lt0
-unfolding offset_good
-returns-then-offset-lt0 c = rw c.if-offset-lt0.true
+pub returns-then-offset-ge0 : goal.returns-then-offset-ge0
+returns-then-offset-ge0 c = offset-above (word_of c.args.offset) c.if-offset-ge0.true
 
-pub returns-then-offset-gt64 : goal.returns-then-offset-gt64
-unfolding offset_good
-returns-then-offset-gt64 c = rw (c.if-offset-lt0.false, c.if-offset-gt64.true)
-
-pub returns : goal.returns
-unfolding offset_good
-returns c = rw (c.if-offset-lt0.false, c.if-offset-gt64.false)
+pub returns-else-offset-ge0 : goal.returns-else-offset-ge0
+returns-else-offset-ge0 c = offset-below (word_of c.args.offset) c.if-offset-ge0.false

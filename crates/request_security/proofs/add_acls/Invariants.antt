@@ -1,4 +1,3 @@
-use Prim.Native.Nat.{◌-◌}
 use Rattle.fields_schema.specs.declared.Kind.TheVariants as kind
 use Rattle.protocol.specs.Command.{acl_of}
 use Rattle.request_scope.specs.Stands.{acls_in}
@@ -9,6 +8,3 @@ use Rattle.request_security.proofs.add_acls.Given as goal
 
 abbrev pub invariant-loop-n : goal.invariant-loop-n
 invariant-loop-n l = Adding kind.Acl 2 acl_of acl_taken 8 put_all put_one l.s (acls_in l.s l.initial.left) l.initial.device l.left l.device l.n
-
-abbrev pub decreases-loop-n : goal.decreases-loop-n
-decreases-loop-n l = 8 - l.n

@@ -10,7 +10,7 @@ use Rattle.signature_hmac.specs.KeyBlockLaws.{masked-made, map_at}
 use Rattle.signature_hmac.proofs.key_block.Goals as goal
 
 pub loop-i-init : goal.loop-i-init
-loop-i-init c = (refl, omega arith, paste-zero (replicate 64 c.args.v) 0 (map (λ x. bit_xor x c.args.v) c.args.key.now))
+loop-i-init c = (refl, paste-zero (replicate 64 c.args.v) 0 (map (λ x. bit_xor x c.args.v) c.args.key.now))
 
 pub loop-i-preserved : goal.loop-i-preserved
 loop-i-preserved c =
@@ -19,10 +19,10 @@ loop-i-preserved c =
     let v = c.args.v in
     let g : ℕ → ℕ = λ x. bit_xor x v in
     let n : length (map g key) ≡ length key = length-map key g in
-    (simp length-set l.invariant.0, omega arith, front-more (replicate 64 v) (map g key) l.i _ l.invariant.2 (simp length-replicate (omega arith)) (omega arith) (sym (map_at g key l.i (omega arith))))
+    (simp length-set l.invariant.0, front-more (replicate 64 v) (map g key) l.i _ l.invariant.1 (simp length-replicate (omega arith)) (omega arith) (sym (map_at g key l.i (omega arith))))
 
 pub returns : goal.returns
 returns c =
     let l = c.loop-i in
     let e : l.i ≡ length c.args.key.now = omega arith in
-    rw (l.invariant.2, e) (masked-made c.args.v c.args.key.now c.requires)
+    rw (l.invariant.1, e) (masked-made c.args.v c.args.key.now c.requires)

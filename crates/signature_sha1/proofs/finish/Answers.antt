@@ -1,47 +1,33 @@
-use mathlib.Core.Path.{◌≡◌, sym, ap, ap₂, ◌∙◌}
-use mathlib.Core.List.{◌++◌}
-use Prim.Native.Nat.{ℕ, ◌+◌, ◌-◌, ◌*◌, ◌/◌}
-use native.Mathlib.Omega.{arith}
-use lib.Seq.{take_all}
-use lib.ListN.{length, take, drop, length-take, length-drop}
+use Rattle.std.proofs.Common.{◌≡◌, sym, ap, ap₂, ◌∙◌, ◌++◌, ◌+◌, ◌*◌, ◌/◌, arith, length, drop}
 use Rattle.signature_sha1_compression.specs.Compression.{compress}
-use Rattle.signature_sha1.specs.Sha1.{pad, block, chain, overall}
-use Rattle.signature_sha1.specs.Sha1Laws.{chain-none, chain_more, finish-split}
+use Rattle.signature_sha1.specs.Sha1.{pad, chain, overall}
+use Rattle.signature_sha1.specs.Sha1Laws.{chain-none, chain_more, cut_at, block-length, finish-split}
 use Rattle.signature_sha1.proofs.finish.Goals as goal
 
--- src/lib.rt:204:5
-pub loop-i-init : goal.loop-i-init
-loop-i-init c = (omega arith, sym (chain-none _ _))
+pub loop-block-init : goal.loop-block-init
+loop-block-init c = sym (chain-none _ _)
 
--- src/lib.rt:207:9
 pub compress-v-requires : goal.compress-v-requires
-compress-v-requires c = simp (length-take, length-drop) (omega arith)
+compress-v-requires c =
+    let i = c.loop-block.block-index in
+    ap length (cut_at c.args.text.now i c.as_chunks.ensures.front (omega arith)) ∙ block-length c.args.text.now i (omega arith)
 
--- src/lib.rt:204:5
-pub loop-i-preserved : goal.loop-i-preserved
-unfolding block
-loop-i-preserved c =
+pub loop-block-preserved : goal.loop-block-preserved
+loop-block-preserved c =
     let a = c.args in
-    let l = c.loop-i in
-    let e : 64 * l.i + 64 - 64 * l.i ≡ 64 = omega arith in (
-      omega arith,
-      c.compress-v.ensures ∙ ap₂ compress l.invariant.1 (ap (λ (n : ℕ). take n (drop (64 * l.i) a.text.now)) e)
-          ∙ sym (chain_more a.h a.text.now l.i),
-    )
+    let i = c.loop-block.block-index in
+    c.compress-v.ensures ∙ ap₂ compress c.loop-block.invariant (cut_at c.args.text.now i c.as_chunks.ensures.front (omega arith)) ∙ sym (chain_more a.h a.text.now i)
 
--- src/lib.rt:211:5
 pub last-requires : goal.last-requires
-last-requires c = simp (length-take, length-drop) (omega arith)
+last-requires c = (omega arith, c.requires.1)
 
--- src/lib.rt:197:1
 pub returns : goal.returns
 returns c =
     let a = c.args in
-    let l = c.loop-i in
     let t = a.text.now in
     let n = length t / 64 in
-    let e : l.i ≡ n = omega arith in
+    let e : c.loop-block.block-index ≡ n = omega arith in
+    let at : n * 64 ≡ 64 * n = omega arith in
     c.last.ensures
-    ∙ ap₂ (λ s r. overall s (r ++ pad (a.taken + length t))) (l.invariant.1 ∙ ap (chain a.h t) e)
-    (take_all (length t - 64 * n) (drop (64 * n) t) (simp length-drop (omega arith)))
+    ∙ ap₂ (λ s r. overall s (r ++ pad (a.taken + length t))) (c.loop-block.invariant ∙ ap (chain a.h t) e) (c.as_chunks.ensures.back ∙ ap (λ k. drop k t) at)
     ∙ finish-split a.h a.taken n t (omega arith)

@@ -7,12 +7,10 @@ use Rattle.store_block_sum.specs.SumLaws.{columns-more}
 use Rattle.store_block_sum.proofs.columns.Goals as goal
 
 pub loop-k-init : goal.loop-k-init
-loop-k-init c = (omega arith, record { long = refl; each = λ k h. absurd (omega arith) })
+loop-k-init c = record { long = refl; each = λ k h. absurd (omega arith) }
 
 pub loop-k-preserved : goal.loop-k-preserved
-loop-k-preserved c =
-    let l = c.loop-k in
-    (omega arith, columns-more _ l.c l.k _ _ (omega arith) l.invariant.1 c.column-x.ensures)
+loop-k-preserved c = let l = c.loop-k in columns-more _ l.c l.k _ _ c.loop-k-test.true l.invariant c.column-x.ensures
 
 pub returns : goal.returns
-returns c = let l = c.loop-k in subst (λ (n : ℕ). Columns c.args.b.now n l.c) (le_antisymm l.invariant.0 c.loop-k-test.false) l.invariant.1
+returns c = let l = c.loop-k in subst (λ (n : ℕ). Columns c.args.b.now n l.c) (le_antisymm l.auto.k-end c.loop-k-test.false) l.invariant

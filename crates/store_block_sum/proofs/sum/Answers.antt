@@ -9,7 +9,7 @@ use Rattle.store_block_sum.proofs.sum.Goals as goal
 use Rattle.store_block_sum.proofs.sum.Goals.{After-last, In-loop-k}
 
 pub loop-k-init : goal.loop-k-init
-loop-k-init c = (omega arith, sym (eight-none _), omega arith)
+loop-k-init c = (sym (eight-none _), omega arith)
 
 -- the turn's column
 abbrev Turn : Type 0
@@ -39,10 +39,10 @@ overflow_add-s-in-loop-k-3 c = omega (arith, times (goal.at.overflow_add-s-in-lo
 pub loop-k-preserved : goal.loop-k-preserved
 loop-k-preserved c =
     let l = c.loop-k in
-    (omega arith, columns-add _ _ l.k l.s c.loop-k-test.true c.requires c.columns-c.ensures l.invariant.1, omega (arith, times (goal.at.loop-k-preserved c).In-loop-k, rows (goal.at.loop-k-preserved c).In-loop-k))
+    (columns-add _ _ l.k l.s c.loop-k-test.true c.requires c.columns-c.ensures l.invariant.0, omega (arith, times (goal.at.loop-k-preserved c).In-loop-k, rows (goal.at.loop-k-preserved c).In-loop-k))
 
 whole : (c : After-last) → c.loop-k.s ≡ eight c.args.b.now 64
-whole c = let l = c.loop-k in l.invariant.1 ∙ ap (eight _) (le_antisymm l.invariant.0 c.loop-k-test.false)
+whole c = let l = c.loop-k in l.invariant.0 ∙ ap (eight _) (le_antisymm l.auto.k-end c.loop-k-test.false)
 
 pub overflow_sub-result : goal.overflow_sub-result
 overflow_sub-result c = omega (arith, whole (goal.at.overflow_sub-result c).After-last, eight-done c.args.b.now c.requires, c.last.ensures)

@@ -1,10 +1,7 @@
-use Prim.Native.Nat.{◌*◌, ◌≤◌, ◌-◌}
+use Prim.Native.Nat.{◌*◌, ◌≤◌}
 use mathlib.Core.Path.{◌≡◌}
 use Rattle.store_block_sum.specs.Sum.{eight}
 use Rattle.store_block_sum.proofs.sum.Given as goal
 
 abbrev pub invariant-loop-k : goal.invariant-loop-k
-invariant-loop-k l = (l.k ≤ 64) × (l.s ≡ eight l.b l.k) × (l.s ≤ l.k * 587520)
-
-abbrev pub decreases-loop-k : goal.decreases-loop-k
-decreases-loop-k l = 64 - l.k
+invariant-loop-k l = (l.s ≡ eight l.b l.k) × (l.s ≤ l.k * 587520)

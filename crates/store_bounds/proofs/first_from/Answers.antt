@@ -3,10 +3,10 @@ use Rattle.store_layout.specs.Entries.{place_of}
 use Rattle.store_bounds.specs.PlacesLaws.{from_place}
 use Rattle.store_bounds.proofs.first_from.Goals as goal
 
-pub returns-in-At : goal.returns-in-At
+pub returns-in-Ok : goal.returns-in-Ok
 unfolding place_of
-returns-in-At c = λ g. ap place_of (sym c.in-At.is) ∙ from_place _ _ _ c.find.ensures g
+returns-in-Ok c = λ g. ap place_of (sym c.in-Ok.is) ∙ from_place _ _ _ c.find.ensures g
 
-pub returns-in-Gap : goal.returns-in-Gap
+pub returns-in-Err : goal.returns-in-Err
 unfolding place_of
-returns-in-Gap c = λ g. ap place_of (sym c.in-Gap.is) ∙ from_place _ _ _ c.find.ensures g
+returns-in-Err c = λ g. ap place_of (sym c.in-Err.is) ∙ from_place _ _ _ c.find.ensures g

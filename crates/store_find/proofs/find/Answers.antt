@@ -1,10 +1,11 @@
-use Prim.Native.Nat.{ℕ, ◌+◌, ◌-◌}
+use Rattle.std.specs.Prelude.{Ok, Err}
+use Prim.Native.Nat.{ℕ, ◌+◌, ◌-◌, ◌*◌}
 use native.Mathlib.Omega.{arith}
-use mathlib.Core.Path.{◌≡◌, ◌∙◌, ap, refl, sym}
+use native.Mathlib.Nat.{le_antisymm}
+use mathlib.Core.Path.{◌≡◌, ◌∙◌, ap, sym}
 use lib.ListN.{take, drop, get_or}
-use Rattle.store_block.specs.declared.Order.{Order}
+use Rattle.std.specs.declared.cmp.Ordering.{Ordering}
 use Rattle.store_block.specs.Order.{cmp}
-use Rattle.store_layout.specs.declared.KeyPlace.TheVariants.{At, Gap}
 use Rattle.store_layout.specs.Store.{blocks_in, entries_from, entries_of}
 use Rattle.store_layout.specs.Entries.{by_order, find_from, find_in, past_of}
 use Rattle.store_layout.proofs.EntriesLaws.{by_less, by_equal, by-greater}
@@ -16,56 +17,34 @@ abbrev Turn : Type 0
 Turn = After-compare
 
 -- what the turn's comparison says of the whole search
-turn : (c : Turn) → by_order c.compare.result (Gap c.loop-i.i) (At c.loop-i.i)
-    (find_from (c.loop-i.i + 1) c.args.key.now (entries_from (blocks_in c.args.store.now - (c.loop-i.i + 1)) (drop (c.loop-i.a + 512) c.args.store.now)))
+turn : (c : Turn) → by_order c.compare.result (Err c.loop-i.i) (Ok c.loop-i.i)
+    (find_from (c.loop-i.i + 1) c.args.key.now (entries_from (blocks_in c.args.store.now - (c.loop-i.i + 1)) (drop ((c.loop-i.i + 1) * 512) c.args.store.now)))
     ≡ find_in c.args.key.now (entries_of c.args.store.now)
 turn c =
     let l = c.args.store.now in
     let key = c.args.key.now in
-    let a = c.loop-i.a in
     let i = c.loop-i.i in
+    let a : ℕ = i * 512 in
     let n = blocks_in l in
+    let next : (i + 1) * 512 ≡ a + 512 = omega arith in
     let count : a + 8 + c.wide.result - (a + 8) ≡ get_or l (a + 1) 0 = let w = c.wide.ensures.0 in omega arith in
-    ap (λ (o : Order). by_order o (Gap i) (At i) (find_from (i + 1) key (entries_from (n - (i + 1)) (drop (a + 512) l))))
+    ap (λ (m : ℕ). by_order c.compare.result (Err i) (Ok i) (find_from (i + 1) key (entries_from (n - (i + 1)) (drop m l)))) next
+    ∙ ap (λ (o : Ordering). by_order o (Err i) (Ok i) (find_from (i + 1) key (entries_from (n - (i + 1)) (drop (a + 512) l))))
     (c.compare.ensures ∙ ap (λ (m : ℕ). cmp key (take m (drop (a + 8) l))) count)
     ∙ sym (find-used l n i a key c.loop-i-test.true c.if-store-a-eq0.false)
-    ∙ c.loop-i.invariant.3
+    ∙ c.loop-i.invariant.1
 
 pub loop-i-init : goal.loop-i-init
 unfolding entries_of find_in
 loop-i-init c = let s = c.args in
     let l = s.store.now in
     let z : blocks_in l - 0 ≡ blocks_in l = omega arith in
-    (omega arith, refl, omega arith, ap (λ (k : ℕ). find_from 0 s.key.now (entries_from k l)) z)
-
-pub bounds-store-a : goal.bounds-store-a
-bounds-store-a c = omega arith
+    (omega arith, ap (λ (k : ℕ). find_from 0 s.key.now (entries_from k l)) z)
 
 pub returns-then-store-a-eq0 : goal.returns-then-store-a-eq0
 unfolding past_of
 returns-then-store-a-eq0 c = let s = c.args in
-    record { within = omega arith; same = λ g. sym (find-blank s.store.now _ _ c.loop-i.a s.key.now c.if-store-a-eq0.true) ∙ c.loop-i.invariant.3 }
-
-pub overflow_add-s : goal.overflow_add-s
-overflow_add-s c = omega arith
-
-pub overflow_add-a : goal.overflow_add-a
-overflow_add-a c = omega arith
-
-pub bounds-store-a-in-loop-i : goal.bounds-store-a-in-loop-i
-bounds-store-a-in-loop-i c = omega arith
-
-pub overflow_add-e : goal.overflow_add-e
-overflow_add-e c = omega arith
-
-pub slice_bounds-compare-count : goal.slice_bounds-compare-count
-slice_bounds-compare-count c = omega arith
-
-pub slice_bounds-compare-start : goal.slice_bounds-compare-start
-slice_bounds-compare-start c = omega arith
-
-pub slice_bounds-compare-end : goal.slice_bounds-compare-end
-slice_bounds-compare-end c = omega arith
+    record { within = omega arith; same = λ g. sym (find-blank s.store.now _ _ (c.loop-i.i * 512) s.key.now c.if-store-a-eq0.true) ∙ c.loop-i.invariant.1 }
 
 pub returns-in-Less : goal.returns-in-Less
 unfolding past_of
@@ -75,19 +54,14 @@ pub returns-in-Equal : goal.returns-in-Equal
 unfolding past_of
 returns-in-Equal c = record { within = omega arith; same = λ g. by_equal _ _ _ _ _ c.in-Equal.is (turn (goal.at.returns-in-Equal c).After-compare) }
 
-pub overflow_add-i : goal.overflow_add-i
-overflow_add-i c = omega arith
-
-pub overflow_add-a-in-loop-i : goal.overflow_add-a-in-loop-i
-overflow_add-a-in-loop-i c = omega arith
-
-pub loop-i-smaller : goal.loop-i-smaller
-loop-i-smaller c = omega arith
-
 pub loop-i-preserved : goal.loop-i-preserved
-loop-i-preserved c = (omega arith, omega arith, omega arith, by-greater _ _ _ _ _ c.in-Greater.is (turn (goal.at.loop-i-preserved c).After-compare))
+loop-i-preserved c = (omega arith, by-greater _ _ _ _ _ c.in-Greater.is (turn (goal.at.loop-i-preserved c).After-compare))
 
 pub returns : goal.returns
 unfolding past_of
 returns c = let s = c.args in
-    record { within = omega arith; same = λ g. sym (find-end s.store.now _ _ c.loop-i.a s.key.now c.loop-i-test.false) ∙ c.loop-i.invariant.3 }
+    let n = le_antisymm c.loop-i.auto.i-end c.loop-i-test.false in
+    record {
+      within = omega arith;
+      same = λ g. ap Err (sym n) ∙ sym (find-end s.store.now _ _ (c.loop-i.i * 512) s.key.now c.loop-i-test.false) ∙ c.loop-i.invariant.1;
+    }

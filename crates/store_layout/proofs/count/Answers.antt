@@ -1,7 +1,8 @@
-use Prim.Native.Nat.{ℕ, ◌+◌, ◌-◌}
+use Prim.Native.Nat.{ℕ, ◌+◌, ◌-◌, ◌*◌}
 use native.Mathlib.Omega.{arith}
-use mathlib.Core.Path.{◌≡◌, ◌∙◌, ap, refl, sym}
-use lib.ListN.{length}
+use native.Mathlib.Nat.{le_antisymm}
+use mathlib.Core.Path.{◌≡◌, ◌∙◌, ap, sym}
+use lib.ListN.{length, drop}
 use Rattle.store_layout.specs.Store.{blocks_in, entries_from, entries_of}
 use Rattle.store_layout.proofs.WalkLaws.{count-blank, count-used, count-end}
 use Rattle.store_layout.proofs.count.Goals as goal
@@ -11,27 +12,23 @@ unfolding entries_of
 loop-i-init c = let l = c.args.store.now in
     let z : 0 + length (entries_from (blocks_in l - 0) l) ≡ length (entries_from (blocks_in l - 0) l) = omega arith in
     let y : blocks_in l - 0 ≡ blocks_in l = omega arith in
-    (omega arith, refl, omega arith, z ∙ ap (λ (k : ℕ). length (entries_from k l)) y)
+    (omega arith, z ∙ ap (λ (k : ℕ). length (entries_from k l)) y)
 
-pub bounds-store-a : goal.bounds-store-a
-bounds-store-a c = omega arith
-
-pub returns-then-store-a-eq0 : goal.returns-then-store-a-eq0
-returns-then-store-a-eq0 c = λ g. sym (count-blank c.args.store.now _ _ c.loop-i.a c.if-store-a-eq0.true) ∙ c.loop-i.invariant.3
-
-pub overflow_add-i : goal.overflow_add-i
-overflow_add-i c = omega arith
-
-pub overflow_add-a : goal.overflow_add-a
-overflow_add-a c = omega arith
-
-pub loop-i-smaller : goal.loop-i-smaller
-loop-i-smaller c = omega arith
+pub returns-then-store-i-eq0 : goal.returns-then-store-i-eq0
+returns-then-store-i-eq0 c = λ g. sym (count-blank c.args.store.now _ _ (c.loop-i.i * 512) c.if-store-i-eq0.true) ∙ c.loop-i.invariant.1
 
 pub loop-i-preserved : goal.loop-i-preserved
-loop-i-preserved c = let d = c.before.before.before in
-    let l = d.args.store.now in
-    (omega arith, omega arith, omega arith, count-used l (blocks_in l) d.loop-i.i d.loop-i.a c.loop-i-test.true c.if-store-a-eq0.false ∙ d.loop-i.invariant.3)
+loop-i-preserved c =
+    let l = c.args.store.now in
+    let n = blocks_in l in
+    let i = c.loop-i.i in
+    let next : (i + 1) * 512 ≡ i * 512 + 512 = omega arith in (
+      omega arith,
+      ap (λ (a : ℕ). i + 1 + length (entries_from (n - (i + 1)) (drop a l))) next
+          ∙ count-used l n i (i * 512) c.loop-i-test.true c.if-store-i-eq0.false ∙ c.loop-i.invariant.1,
+    )
 
 pub returns : goal.returns
-returns c = λ g. sym (count-end c.args.store.now _ _ c.loop-i.a c.loop-i-test.false) ∙ c.loop-i.invariant.3
+returns c =
+    let l = c.args.store.now in
+    λ g. sym (le_antisymm c.loop-i.auto.i-end c.loop-i-test.false) ∙ sym (count-end l _ _ (c.loop-i.i * 512) c.loop-i-test.false) ∙ c.loop-i.invariant.1

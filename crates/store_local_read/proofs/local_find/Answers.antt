@@ -1,8 +1,8 @@
-use Prim.Native.Nat.{◌≤◌}
+use Rattle.std.specs.Prelude.{Result}
+use Prim.Native.Nat.{ℕ, ◌≤◌}
 use native.Mathlib.Omega.{arith}
 use mathlib.Core.Path.{◌≡◌, ◌∙◌, sym, subst}
 use mathlib.Core.Bool.{true}
-use Rattle.store_layout.specs.declared.KeyPlace.{KeyPlace}
 use Rattle.store_layout.specs.Store.{blocks_in, store_good}
 use Rattle.store_layout.specs.Entries.{past_of}
 use Rattle.store_local_read.proofs.LocalLaws.{is-bad, good-store, is_found, is-missing}
@@ -20,15 +20,15 @@ unfolding past_of
 value_at-requires c =
     let f = (goal.at.value_at-requires c).After-find in
     let s = c.args in
-    let w = subst (λ (o : KeyPlace). past_of o ≤ blocks_in s.store.now) c.in-At.is c.find.ensures.within in
+    let w = subst (λ (o : Result ℕ ℕ). past_of o ≤ blocks_in s.store.now) c.in-Ok.is c.find.ensures.within in
     (good-store s.store.now s.key.now (good f), omega arith)
 
-pub returns-in-At : goal.returns-in-At
-returns-in-At c = let f = (goal.at.returns-in-At c).After-find in
+pub returns-in-Ok : goal.returns-in-Ok
+returns-in-Ok c = let f = (goal.at.returns-in-Ok c).After-find in
     let s = c.args in
-    is_found s.store.now s.key.now (good f) _ (sym c.in-At.is ∙ c.find.ensures.same (good-store s.store.now s.key.now (good f))) c.value_at.ensures
+    is_found s.store.now s.key.now (good f) _ (sym c.in-Ok.is ∙ c.find.ensures.same (good-store s.store.now s.key.now (good f))) c.value_at.ensures.0 c.value_at.ensures.1
 
-pub returns-in-Gap : goal.returns-in-Gap
-returns-in-Gap c = let f = (goal.at.returns-in-Gap c).After-find in
+pub returns-in-Err : goal.returns-in-Err
+returns-in-Err c = let f = (goal.at.returns-in-Err c).After-find in
     let s = c.args in
-    is-missing s.store.now s.key.now (good f) _ (sym c.in-Gap.is ∙ c.find.ensures.same (good-store s.store.now s.key.now (good f)))
+    is-missing s.store.now s.key.now (good f) _ (sym c.in-Err.is ∙ c.find.ensures.same (good-store s.store.now s.key.now (good f)))

@@ -1,12 +1,14 @@
-use Rattle.device_format.specs.declared.Formatted.TheVariants.{Made, StoreBad, KeyBad}
+use mathlib.Core.Path.{ap, ◌∙◌}
+use Rattle.std.specs.Prelude.{Ok, Err}
+use Rattle.device_format.specs.declared.FormatError.TheVariants.{StoreBad, KeyBad}
 use Rattle.c_calls.proofs.HostSteps.{formatted}
 use Rattle.c_calls.proofs.host.format.Goals as goal
 
-pub returns-in-Made : goal.returns-in-Made
-returns-in-Made c = formatted Made c.in-Made.is c.format.ensures
+pub returns-in-Ok : goal.returns-in-Ok
+returns-in-Ok c = formatted (Ok tt) c.in-Ok.is c.format.ensures
 
-pub returns-in-StoreBad : goal.returns-in-StoreBad
-returns-in-StoreBad c = formatted StoreBad c.in-StoreBad.is c.format.ensures
+pub returns-in-Err-StoreBad : goal.returns-in-Err-StoreBad
+returns-in-Err-StoreBad c = formatted (Err StoreBad) (c.in-Err-StoreBad.is ∙ ap Err c.in-Err-StoreBad.field-0-is) c.format.ensures
 
-pub returns-in-KeyBad : goal.returns-in-KeyBad
-returns-in-KeyBad c = formatted KeyBad c.in-KeyBad.is c.format.ensures
+pub returns-in-Err-KeyBad : goal.returns-in-Err-KeyBad
+returns-in-Err-KeyBad c = formatted (Err KeyBad) (c.in-Err-KeyBad.is ∙ ap Err c.in-Err-KeyBad.field-0-is) c.format.ensures

@@ -1,45 +1,72 @@
-use native.Mathlib.Omega.{arith}
-use Rattle.fields_decode.proofs.Storing.{going_start, going_end, going-none, going-refused, going-skip, takes-below, going_on, going-off}
+use Rattle.std.proofs.Common.{arith}
+use Rattle.fields_decode.proofs.Storing.{going_start, going_end, going-none, going-refused, going-skip, takes-below, going_on}
 use Rattle.fields_decode.proofs.slots.collect.Goals as goal
 
 pub loop-at-init : goal.loop-at-init
-loop-at-init c = let a = c.args in going_start a.kind a.s.now
+loop-at-init c = going_start c.args.kind c.args.s.now
 
-pub returns-then-next-at : goal.returns-then-next-at
-returns-then-next-at c = let a = c.args in let s = a.s.now in let o = c.loop-at in let r = c.read_field-f in let x = c.next_of-next in going-none a.kind s o.seen o.value o.len o.at o.invariant c.loop-at-test.true r.result r.ensures.0 r.ensures.1 x.result x.ensures c.refused.result c.if-next-at.true c.refused.ensures
+pub returns-in_default : goal.returns-in_default
+returns-in_default c =
+    let a = c.args in
+    let o = c.loop-at in
+    going-none a.kind a.s.now o.seen o.value o.len o.at o.invariant c.loop-at-test.true c.in_default.ensures.0 c.refused.result c.refused.ensures
 
 pub judge-requires : goal.judge-requires
 judge-requires c = c.loop-at.invariant.holds.marks.small
 
-pub returns-in-Refuse : goal.returns-in-Refuse
-returns-in-Refuse c = let a = c.args in let s = a.s.now in let o = c.loop-at in let r = c.read_field-f in let x = c.next_of-next in let j = c.judge in going-refused a.kind s o.seen o.value o.len o.at o.invariant c.loop-at-test.true r.result r.ensures.0 r.ensures.1 x.result x.ensures c.if-next-at.false j.result j.ensures c.refused-in-Refuse.result c.in-Refuse.is c.refused-in-Refuse.ensures
+pub returns-in_default-judge : goal.returns-in_default-judge
+returns-in_default-judge c =
+    let a = c.args in
+    let o = c.loop-at in
+    let f = c.in-Some in
+    let r = c.refused-in_default-judge in
+    going-refused a.kind a.s.now o.seen o.value o.len o.at o.invariant f.f f.ensures.0 f.ensures.1 (c.in_default-judge.ensures a.s.now o.at o.invariant.found f.ensures.1 o.invariant.holds.marks) r.result r.ensures
 
-pub returns-then-not-ok : goal.returns-then-not-ok
-returns-then-not-ok c = let a = c.args in let s = a.s.now in let o = c.loop-at in let r = c.read_field-f in let x = c.next_of-next in let j = c.judge in let v = c.in-Take in let q = c.slot_of-p in going-off a.kind s o.seen o.value o.len o.at o.invariant c.loop-at-test.true r.result r.ensures.0 r.ensures.1 x.result x.ensures c.if-next-at.false j.result j.ensures v.number v.x v.what v.is c.refused-then-not-ok.result q.result q.ensures c.if-not-ok.true c.refused-then-not-ok.ensures
+pub offset_bounds-value-t : goal.offset_bounds-value-t
+offset_bounds-value-t c =
+    let a = c.args in
+    let o = c.loop-at in
+    let f = c.in-Some in
+    let l = takes-below a.kind a.s.now o.seen o.value o.len o.at o.invariant f.f f.ensures.0 f.ensures.1 c.in-Some-judged.t c.in-Ok.judged c.in-Some-judged.is (c.in-Ok.ensures a.s.now o.at o.invariant.found f.ensures.1 o.invariant.holds.marks) in
+    record { fits = omega arith }
 
-pub offset_bounds-value-number : goal.offset_bounds-value-number
-offset_bounds-value-number c = let l = let a = c.args in let s = a.s.now in let o = c.loop-at in let r = c.read_field-f in let x = c.next_of-next in let j = c.judge in let v = c.in-Take in takes-below a.kind s o.seen o.value o.len o.at o.invariant c.loop-at-test.true r.result r.ensures.0 r.ensures.1 x.result x.ensures c.if-next-at.false j.result j.ensures v.number v.x v.what v.is in record { fits = omega arith }
+pub bounds-value-t : goal.bounds-value-t
+bounds-value-t c =
+    let a = c.args in
+    let o = c.loop-at in
+    let f = c.in-Some in
+    let l = takes-below a.kind a.s.now o.seen o.value o.len o.at o.invariant f.f f.ensures.0 f.ensures.1 c.in-Some-judged.t c.in-Ok.judged c.in-Some-judged.is (c.in-Ok.ensures a.s.now o.at o.invariant.found f.ensures.1 o.invariant.holds.marks) in
+    omega (arith, o.invariant.holds.sized.value)
 
-pub bounds-value-number : goal.bounds-value-number
-bounds-value-number c = let l = let a = c.args in let s = a.s.now in let o = c.loop-at in let r = c.read_field-f in let x = c.next_of-next in let j = c.judge in let v = c.in-Take in takes-below a.kind s o.seen o.value o.len o.at o.invariant c.loop-at-test.true r.result r.ensures.0 r.ensures.1 x.result x.ensures c.if-next-at.false j.result j.ensures v.number v.x v.what v.is in omega (arith, c.loop-at.invariant.holds.sized.value)
+pub offset_bounds-len-t : goal.offset_bounds-len-t
+offset_bounds-len-t c =
+    let a = c.args in
+    let o = c.loop-at in
+    let f = c.in-Some in
+    let l = takes-below a.kind a.s.now o.seen o.value o.len o.at o.invariant f.f f.ensures.0 f.ensures.1 c.in-Some-judged.t c.in-Ok.judged c.in-Some-judged.is (c.in-Ok.ensures a.s.now o.at o.invariant.found f.ensures.1 o.invariant.holds.marks) in
+    record { fits = omega arith }
 
-pub offset_bounds-len-number : goal.offset_bounds-len-number
-offset_bounds-len-number c = let l = let a = c.args in let s = a.s.now in let o = c.loop-at in let r = c.read_field-f in let x = c.next_of-next in let j = c.judge in let v = c.in-Take in takes-below a.kind s o.seen o.value o.len o.at o.invariant c.loop-at-test.true r.result r.ensures.0 r.ensures.1 x.result x.ensures c.if-next-at.false j.result j.ensures v.number v.x v.what v.is in record { fits = omega arith }
-
-pub bounds-len-number : goal.bounds-len-number
-bounds-len-number c = let l = let a = c.args in let s = a.s.now in let o = c.loop-at in let r = c.read_field-f in let x = c.next_of-next in let j = c.judge in let v = c.in-Take in takes-below a.kind s o.seen o.value o.len o.at o.invariant c.loop-at-test.true r.result r.ensures.0 r.ensures.1 x.result x.ensures c.if-next-at.false j.result j.ensures v.number v.x v.what v.is in omega (arith, c.loop-at.invariant.holds.sized.len)
-
-pub loop-at-smaller-in-Skip : goal.loop-at-smaller-in-Skip
-loop-at-smaller-in-Skip c = omega arith
-
-pub loop-at-preserved-in-Skip : goal.loop-at-preserved-in-Skip
-loop-at-preserved-in-Skip c = let a = c.args in let s = a.s.now in let o = c.loop-at in let r = c.read_field-f in let x = c.next_of-next in let j = c.judge in going-skip a.kind s o.seen o.value o.len o.at o.invariant c.loop-at-test.true r.result r.ensures.0 r.ensures.1 x.result x.ensures c.if-next-at.false j.result j.ensures c.in-Skip.is
-
-pub loop-at-smaller : goal.loop-at-smaller
-loop-at-smaller c = omega arith
+pub bounds-len-t : goal.bounds-len-t
+bounds-len-t c =
+    let a = c.args in
+    let o = c.loop-at in
+    let f = c.in-Some in
+    let l = takes-below a.kind a.s.now o.seen o.value o.len o.at o.invariant f.f f.ensures.0 f.ensures.1 c.in-Some-judged.t c.in-Ok.judged c.in-Some-judged.is (c.in-Ok.ensures a.s.now o.at o.invariant.found f.ensures.1 o.invariant.holds.marks) in
+    omega (arith, o.invariant.holds.sized.len)
 
 pub loop-at-preserved : goal.loop-at-preserved
-loop-at-preserved c = let a = c.args in let s = a.s.now in let o = c.loop-at in let r = c.read_field-f in let x = c.next_of-next in let j = c.judge in let v = c.in-Take in let q = c.slot_of-p in going_on a.kind s o.seen o.value o.len o.at o.invariant c.loop-at-test.true r.result r.ensures.0 r.ensures.1 x.result x.ensures c.if-next-at.false j.result j.ensures v.number v.x v.what v.is q.result q.ensures c.if-not-ok.false
+loop-at-preserved c =
+    let a = c.args in
+    let o = c.loop-at in
+    let f = c.in-Some in
+    going-skip a.kind a.s.now o.seen o.value o.len o.at o.invariant f.f f.ensures.0 f.ensures.1 c.in-Ok.judged c.in_default-judged.is (c.in-Ok.ensures a.s.now o.at o.invariant.found f.ensures.1 o.invariant.holds.marks)
+
+pub loop-at-preserved-in-Some-judged : goal.loop-at-preserved-in-Some-judged
+loop-at-preserved-in-Some-judged c =
+    let a = c.args in
+    let o = c.loop-at in
+    let f = c.in-Some in
+    going_on a.kind a.s.now o.seen o.value o.len o.at o.invariant f.f f.ensures.0 f.ensures.1 c.in-Some-judged.t c.in-Ok.judged c.in-Some-judged.is (c.in-Ok.ensures a.s.now o.at o.invariant.found f.ensures.1 o.invariant.holds.marks) c.slot_of-p.result c.slot_of-p.ensures
 
 pub returns : goal.returns
-returns c = let a = c.args in let o = c.loop-at in going_end a.kind a.s.now o.seen o.value o.len o.at o.invariant c.loop-at-test.false
+returns c = going_end c.args.kind c.args.s.now c.loop-at.seen c.loop-at.value c.loop-at.len c.loop-at.at c.loop-at.invariant c.loop-at-test.false

@@ -11,9 +11,6 @@ pub loop-i-init : goal.loop-i-init
 loop-i-init c =
     (omega arith, omega (arith, c.requires.2, c.requires.3), omega arith, keys_none (entries_of c.args.store.now) c.args.places.now c.args.count c.requires.1 c.requires.4)
 
-pub overflow_sub-i : goal.overflow_sub-i
-overflow_sub-i c = omega arith
-
 pub push_key-p-requires : goal.push_key-p-requires
 push_key-p-requires c =
     let w = c.loop-i.invariant in
@@ -21,9 +18,6 @@ push_key-p-requires c =
     let l = w.3.long in
     let h = w.3.fits in
     (c.requires.0, omega arith, omega arith)
-
-pub loop-i-smaller : goal.loop-i-smaller
-loop-i-smaller c = omega arith
 
 pub loop-i-preserved : goal.loop-i-preserved
 loop-i-preserved c =

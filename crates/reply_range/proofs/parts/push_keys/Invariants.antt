@@ -9,6 +9,3 @@ use Rattle.reply_range.proofs.parts.push_keys.Given as goal
 
 abbrev pub invariant-loop-i : goal.invariant-loop-i
 invariant-loop-i l = (l.i ≤ l.count) × (79 * l.i ≤ l.p) × (l.at ≤ l.p + 79 * (l.count - l.i)) × Pushed l.p l.at (encode (each 8 (drop l.i (keys_at (entries_of l.store) (take l.count l.places))) done)) l.initial.out l.out
-
-abbrev pub decreases-loop-i : goal.decreases-loop-i
-decreases-loop-i l = l.i

@@ -49,16 +49,16 @@ insert-requires c = let f = (goal.at.insert-requires c).After-find in
     let x = a.few in
     let y = a.room in
     let z = c.requires.1.0.small in
-    let w = gap-low (L f) s.i s.kept (O f) a (K f) c.in-Gap.p (sym c.in-Gap.is ∙ found f) in
+    let w = gap-low (L f) s.i s.kept (O f) a (K f) c.in-Err.p (sym c.in-Err.is ∙ found f) in
     (omega arith, omega arith)
 
-pub returns-in-At : goal.returns-in-At
-returns-in-At c = let f = (goal.at.returns-in-At c).After-find in
+pub returns-in-Ok : goal.returns-in-Ok
+returns-in-Ok c = let f = (goal.at.returns-in-Ok c).After-find in
     let s = c.args in
-    key_twice (L f) s.i s.kept (O f) c.requires.0 c.requires.1.1 (K f) (key-is f) _ (sym c.in-At.is ∙ found f)
+    key_twice (L f) s.i s.kept (O f) c.requires.0 c.requires.1.1 (K f) (key-is f) _ (sym c.in-Ok.is ∙ found f)
 
-pub returns-in-Gap : goal.returns-in-Gap
-returns-in-Gap c = let f = (goal.at.returns-in-Gap c).After-find in
+pub returns-in-Err : goal.returns-in-Err
+returns-in-Err c = let f = (goal.at.returns-in-Err c).After-find in
     let s = c.args in
     subst (λ (o : List ℕ). Judged (L f) s.i s.kept (O f) 1 (s.kept + 1) o) (sym c.insert.ensures)
-    (key-new (L f) s.i s.kept (O f) c.requires.0 c.requires.1.1 (K f) (key-is f) c.in-Gap.p c.requires.1.0 (sym c.in-Gap.is ∙ found f))
+    (key-new (L f) s.i s.kept (O f) c.requires.0 c.requires.1.1 (K f) (key-is f) c.in-Err.p c.requires.1.0 (sym c.in-Err.is ∙ found f))

@@ -1,4 +1,4 @@
-use Prim.Native.Nat.{ℕ, ◌+◌, ◌*◌, ◌≤◌, ◌<◌}
+use Prim.Native.Nat.{ℕ, ◌+◌, ◌-◌, ◌*◌, ◌≤◌, ◌<◌}
 use native.Mathlib.Omega.{arith}
 use mathlib.Core.Path.{◌≡◌, ◌∙◌, ap}
 use mathlib.Core.List.{List}
@@ -9,6 +9,7 @@ use Rattle.store_block.specs.Block.{decode}
 use Rattle.store_layout.specs.Store.{blocks_in, entries_of}
 use Rattle.store_layout.proofs.StoreLaws.{good_length, room}
 use Rattle.store_write.specs.ChangeLaws.{full, opened, inserted}
+use Rattle.store_write.specs.MoveLaws.{moved}
 use Rattle.store_write.proofs.put.insert.Goals as goal
 use Rattle.store_write.proofs.put.insert.Goals.{After-count-end, Else-store-end}
 
@@ -35,8 +36,14 @@ returns-then-store-end c = let d = (goal.at.returns-then-store-end c).After-coun
 pub overflow_mul-a : goal.overflow_mul-a
 overflow_mul-a c = let g = c.well_formed in let l = low (goal.at.overflow_mul-a c).After-count-end in omega arith
 
-pub move_up-requires : goal.move_up-requires
-move_up-requires c = let l = low (goal.at.move_up-requires c).After-count-end in let h = (free (goal.at.move_up-requires c).Else-store-end).1 in (omega arith, omega arith)
+pub copy_within-requires-clause-dest_in_bounds : goal.copy_within-requires-clause-dest_in_bounds
+copy_within-requires-clause-dest_in_bounds c =
+    let w = (goal.at.copy_within-requires-clause-dest_in_bounds c) in
+    let l = low w.After-count-end in
+    let h = (free w.Else-store-end).1 in
+    let a = c.args.i * 512 in
+    let fits : a + 512 + (c.count-end.result * 512 - a) ≤ length c.args.store.now = omega arith in
+    fits
 
 pub copy-requires : goal.copy-requires
 copy-requires c =
@@ -51,9 +58,11 @@ returns c = let f = (free (goal.at.returns c).Else-store-end).0 in
     let l = s.store.now in
     let p = c.requires in
     let a = s.i * 512 in
+    let end = c.count-end.result * 512 in
+    let h = low (goal.at.returns c).After-count-end in
     record {
       value = opened l p.0 f;
       store_after = c.copy.ensures
-          ∙ ap (λ (x : List ℕ). over x a s.b.now) c.move_up.ensures
+          ∙ ap (λ (x : List ℕ). over x a s.b.now) (c.copy_within.ensures.after ∙ moved l (a + 512) a end (omega arith) (omega arith))
           ∙ inserted l p.0 f s.i s.b.now p.1.0 p.1.1 c.count-end.result (used (goal.at.returns c).After-count-end);
     }
