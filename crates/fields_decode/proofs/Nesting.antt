@@ -146,15 +146,15 @@ module _ (k : Kind) (s : List ℕ) (seen at : ℕ) (g : Reading k s seen at) whe
   pub reading-none : at < length s → nothing ≡ read_field (drop at s) → false ≡ is_some (listed k s)
   reading-none l n = refuses k s (walk_none k s at g.found g.walk l n)
 
-  module _ (f : Found) (m : got (field_in s f) (drop f.next s) ≡ read_field (drop at s)) (e : EndsFound s at f) where
-    pub reading-refused : step k (field_in s f) g.found ≡ none → false ≡ is_some (listed k s)
+  module _ (f : Found) (m : got (field_in s (Some f)) (drop f.next s) ≡ read_field (drop at s)) (e : EndsFound s at f) where
+    pub reading-refused : step k (field_in s (Some f)) g.found ≡ none → false ≡ is_some (listed k s)
     reading-refused q = refuses k s (walk-refuse k s at g.found g.walk f m q)
 
-    pub reading-skip : (r : Perhaps Take) → r ≡ None → Judges s k g.found f (Ok r) → Reading k s seen f.next
+    pub reading-skip : (r : Perhaps Take) → r ≡ None → Judges s k g.found (Some f) (Ok r) → Reading k s seen f.next
     reading-skip r q h = record { found = g.found; walk = walk-on k s at g.found g.walk f m e g.found (judged-skip s k g.found f r h q); marks = g.marks; good = g.good }
 
-    module _ (t : Take) (r : Perhaps Take) (q : r ≡ Some t) (h : Judges s k g.found f (Ok r)) where
-      pub takes : Takes s k g.found f t
+    module _ (t : Take) (r : Perhaps Take) (q : r ≡ Some t) (h : Judges s k g.found (Some f) (Ok r)) where
+      pub takes : Takes s k g.found (Some f) t
       takes = judged-take s k g.found f r h t q
 
       abbrev more : List Item

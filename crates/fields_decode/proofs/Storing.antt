@@ -48,7 +48,7 @@ last_snoc m n c (item j d ∷ is) = ap (λ o. later o (guard (eqb m j) d)) (last
     go true = refl
     go false = refl
 
-module _ (k : Kind) (s : List ℕ) (t : Slots) (is : List Item) (f : Found) (x : Take) (h : Holds k s t is) (y : Takes s k is f x) (c : Content) where
+module _ (k : Kind) (s : List ℕ) (t : Slots) (is : List Item) (f : Found) (x : Take) (h : Holds k s t is) (y : Takes s k is (Some f) x) (c : Content) where
   abbrev n : ℕ
   n = x.number
 
@@ -73,7 +73,7 @@ abbrev pub slots_of : ℕ → List ℕ → List ℕ → Slots
 slots_of seen value len = record { ok = true; has = seen; value = value; len = len }
 
 stored : (k : Kind) (s : List ℕ) (seen : ℕ) (value len : List ℕ) (is : List Item) (f : Found) (t : Take) (a b : ℕ) (c : Content) → Holds k s (slots_of seen value len) is
-    → Takes s k is f t → Shows s a b c → Holds k s (slots_of t.seen (set value t.number a) (set len t.number b)) (is ++ (item t.number c ∷ []))
+    → Takes s k is (Some f) t → Shows s a b c → Holds k s (slots_of t.seen (set value t.number a) (set len t.number b)) (is ++ (item t.number c ∷ []))
 stored k s seen value len is f t a b c h y o =
     let z = h.sized in
     let l = y.below in
@@ -108,15 +108,15 @@ module _ (k : Kind) (s : List ℕ) (seen : ℕ) (value len : List ℕ) (at : ℕ
   pub going-none : at < length s → nothing ≡ read_field (drop at s) → (r : Slots) → r.ok ≡ false → Tells k s r (level k s)
   going-none l n r z = tells_as k s r (walk_none k s at g.found g.walk l n) z
 
-  module _ (f : Found) (m : got (field_in s f) (drop f.next s) ≡ read_field (drop at s)) (e : EndsFound s at f) where
-    pub going-refused : step k (field_in s f) g.found ≡ none → (r : Slots) → r.ok ≡ false → Tells k s r (level k s)
+  module _ (f : Found) (m : got (field_in s (Some f)) (drop f.next s) ≡ read_field (drop at s)) (e : EndsFound s at f) where
+    pub going-refused : step k (field_in s (Some f)) g.found ≡ none → (r : Slots) → r.ok ≡ false → Tells k s r (level k s)
     going-refused q r z = tells_as k s r (walk-refuse k s at g.found g.walk f m q) z
 
-    pub going-skip : (r : Perhaps Take) → r ≡ None → Judges s k g.found f (Ok r) → Going k s seen value len f.next
+    pub going-skip : (r : Perhaps Take) → r ≡ None → Judges s k g.found (Some f) (Ok r) → Going k s seen value len f.next
     going-skip r q h = record { found = g.found; walk = walk-on k s at g.found g.walk f m e g.found (judged-skip s k g.found f r h q); holds = g.holds }
 
-    module _ (t : Take) (r : Perhaps Take) (q : r ≡ Some t) (h : Judges s k g.found f (Ok r)) where
-      y : Takes s k g.found f t
+    module _ (t : Take) (r : Perhaps Take) (q : r ≡ Some t) (h : Judges s k g.found (Some f) (Ok r)) where
+      y : Takes s k g.found (Some f) t
       y = judged-take s k g.found f r h t q
 
       pub takes-below : t.number < 16

@@ -42,23 +42,23 @@ walk_end k s at is w l = w.rest ∙ ap (λ o. items_o k o is) (ap fields_of (dro
 pub walk_none : (k : Kind) (s : List ℕ) (at : ℕ) (is : List Item) → Walk k s at is → at < length s → nothing ≡ read_field (drop at s) → level k s ≡ none
 walk_none k s at is w l n = w.rest ∙ ap (λ o. items_o k o is) (fields-fail-at s at l (sym n))
 
-module _ (k : Kind) (s : List ℕ) (at : ℕ) (is : List Item) (w : Walk k s at is) (f : Found) (m : got (field_in s f) (drop f.next s) ≡ read_field (drop at s)) where
-  walk_step : level k s ≡ then_o (step k (field_in s f) is) (λ a. items_o k (fields_of (drop f.next s)) a)
-  walk_step = w.rest ∙ ap (λ o. items_o k o is) (fields-front (drop at s) (sym m)) ∙ items-front k (field_in s f) (fields_of (drop f.next s)) is
+module _ (k : Kind) (s : List ℕ) (at : ℕ) (is : List Item) (w : Walk k s at is) (f : Found) (m : got (field_in s (Some f)) (drop f.next s) ≡ read_field (drop at s)) where
+  walk_step : level k s ≡ then_o (step k (field_in s (Some f)) is) (λ a. items_o k (fields_of (drop f.next s)) a)
+  walk_step = w.rest ∙ ap (λ o. items_o k o is) (fields-front (drop at s) (sym m)) ∙ items-front k (field_in s (Some f)) (fields_of (drop f.next s)) is
 
-  pub walk-refuse : step k (field_in s f) is ≡ none → level k s ≡ none
+  pub walk-refuse : step k (field_in s (Some f)) is ≡ none → level k s ≡ none
   walk-refuse h = walk_step ∙ ap (λ o. then_o o (λ a. items_o k (fields_of (drop f.next s)) a)) h
 
-  pub walk-on : EndsFound s at f → (js : List Item) → step k (field_in s f) is ≡ some js → Walk k s f.next js
+  pub walk-on : EndsFound s at f → (js : List Item) → step k (field_in s (Some f)) is ≡ some js → Walk k s f.next js
   walk-on e js h = record {
     inside = e.inside;
     rest = walk_step ∙ ap (λ o. then_o o (λ a. items_o k (fields_of (drop f.next s)) a)) h;
   }
 
 -- what was judged of a field: that it is skipped, or taken
-module _ (s : List ℕ) (k : Kind) (is : List Item) (f : Found) (r : Perhaps Take) (h : Judges s k is f (Ok r)) where
-  pub judged-skip : r ≡ None → step k (field_in s f) is ≡ some is
-  judged-skip e = subst (λ (r : Perhaps Take). Judges s k is f (Ok r)) e h
+module _ (s : List ℕ) (k : Kind) (is : List Item) (f : Found) (r : Perhaps Take) (h : Judges s k is (Some f) (Ok r)) where
+  pub judged-skip : r ≡ None → step k (field_in s (Some f)) is ≡ some is
+  judged-skip e = subst (λ (r : Perhaps Take). Judges s k is (Some f) (Ok r)) e h
 
-  pub judged-take : (t : Take) → r ≡ Some t → Takes s k is f t
-  judged-take t e = subst (λ (r : Perhaps Take). Judges s k is f (Ok r)) e h
+  pub judged-take : (t : Take) → r ≡ Some t → Takes s k is (Some f) t
+  judged-take t e = subst (λ (r : Perhaps Take). Judges s k is (Some f) (Ok r)) e h

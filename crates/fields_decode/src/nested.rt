@@ -21,7 +21,7 @@ pub fn reads(s: &[u8], kind: Kind) -> bool
         let Some(f) = read_field(s, at) else {
             return false;
         };
-        let judged = match judge(kind, seen, f) {
+        let judged = match judge(kind, seen, Some(f)) {
             Ok(judged) => judged,
             Err(Refusal) => return false,
         };

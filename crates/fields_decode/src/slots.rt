@@ -64,7 +64,7 @@ pub fn collect(s: &[u8], kind: Kind) -> Slots
         let Some(f) = read_field(s, at) else {
             return refused();
         };
-        let Ok(judged) = judge(kind, seen, f) else {
+        let Ok(judged) = judge(kind, seen, Some(f)) else {
             return refused();
         };
         if let Some(t) = judged {

@@ -8,8 +8,9 @@ use mathlib.Core.Bool.{Bool, true, false, cond, ◌||◌}
 use mathlib.Core.Logic.{◌⊎◌, inl, inr, ⊎_elim}
 use lib.Dec.{eqb, ltb}
 use borrow.Author.Tests.{eqb-true, ne_eqb, ltb-true, ltb-false}
-use Rattle.std.specs.Prelude.{Some, Ok, Err}
-use Rattle.fields_wire_reader.specs.FieldAnswer.{EndsFound, value_in}
+use Rattle.std.specs.Prelude.{Option as Perhaps, Some, Ok, Err, IfSome}
+use Rattle.fields_wire.specs.Wire.{field}
+use Rattle.fields_wire_reader.specs.FieldAnswer.{EndsFound, number_in, asked_value}
 use Rattle.fields_wire_reader.specs.declared.Found.{Found}
 use Rattle.fields_schema.specs.Rules.{Table, end, row, look, table_of, rule_of, strict_of}
 use Rattle.fields_schema.specs.Tree.{is_some, Content, Item, item, decode, find, add, by_rule, step, later}
@@ -221,55 +222,56 @@ listed-as (Repeated g) seen n l e =
     inr (inr (ap (λ (l : Listed). Repeated l.form) x, ap (λ (l : Listed). l.seen) (sym x)))
 
 -- a field by its rule -------------------------------------------------------------------
-module _ (k : Kind) (f : Found) (ρ : Rule) (p : ρ ≡ rule_of k f.number) where
-  as-rule : (s : List ℕ) (is : List Item) (σ : Rule) {o : Option (List Item)} → ρ ≡ σ → by_rule σ (strict_of k) f.number (value_in s f) is ≡ o → step k (field_in s f) is ≡ o
-  as-rule s is σ {o} e h = ap (λ σ. by_rule σ (strict_of k) f.number (value_in s f) is) (sym p ∙ e) ∙ h
+module _ (k : Kind) (f : Perhaps Found) (n : ℕ) (q : n ≡ number_in f) (ρ : Rule) (p : ρ ≡ rule_of k n) where
+  as-rule : (s : List ℕ) (is : List Item) (σ : Rule) {o : Option (List Item)} → ρ ≡ σ → by_rule σ (strict_of k) n (asked_value s f) is ≡ o → step k (field_in s f) is ≡ o
+  as-rule s is σ {o} e h =
+      subst (λ (m : ℕ). step k (field m (asked_value s f)) is ≡ o) q (ap (λ σ. by_rule σ (strict_of k) n (asked_value s f) is) (sym p ∙ e) ∙ h)
 
   module _ (g : Form) (e : ρ ≡ Once g) where
-    single : is_single (rule_of k f.number) ≡ true
+    single : is_single (rule_of k n) ≡ true
     single = ap is_single (sym p ∙ e)
 
   -- by its form: what is added, and the marks then
   pub record Adds (seen : ℕ) (l : Listed) (s : List ℕ) (is : List Item) : Type 0 where
-    pub below : f.number < 16
-    pub adds : step k (field_in s f) is ≡ add f.number is (decode l.form (value_in s f))
-    pub marked : (c : Content) → Marks k l.seen (is ++ (item f.number c ∷ []))
+    pub below : n < 16
+    pub adds : step k (field_in s f) is ≡ add n is (decode l.form (asked_value s f))
+    pub marked : (c : Content) → Marks k l.seen (is ++ (item n c ∷ []))
 
-  adds-once : (seen : ℕ) (l : Listed) → AsOnce ρ seen f.number l → (s : List ℕ) (is : List Item) → Marks k seen is → Adds seen l s is
+  adds-once : (seen : ℕ) (l : Listed) → AsOnce ρ seen n l → (s : List ℕ) (is : List Item) → Marks k seen is → Adds seen l s is
   adds-once seen l z s is m =
-      let o : find f.number is ≡ none = none_of (find f.number is) (sym (m.marks f.number (single l.form z.0)) ∙ z.1) in
+      let o : find n is ≡ none = none_of (find n is) (sym (m.marks n (single l.form z.0)) ∙ z.1) in
       record {
-        below = once-below k f.number p z.0;
-        adds = as-rule s is (Once l.form) z.0 (ap (λ t. cond (is_some t) none (add f.number is (decode l.form (value_in s f)))) o);
-        marked = λ c. subst (λ (x : ℕ). Marks k x (is ++ (item f.number c ∷ []))) (sym z.2) (marks-with k seen f.number is m (once-below k f.number p z.0) (single l.form z.0) c);
+        below = once-below k n p z.0;
+        adds = as-rule s is (Once l.form) z.0 (ap (λ t. cond (is_some t) none (add n is (decode l.form (asked_value s f)))) o);
+        marked = λ c. subst (λ (x : ℕ). Marks k x (is ++ (item n c ∷ []))) (sym z.2) (marks-with k seen n is m (once-below k n p z.0) (single l.form z.0) c);
       }
 
-  adds-single : (seen : ℕ) (l : Listed) → AsSingle ρ seen f.number l → (s : List ℕ) (is : List Item) → Marks k seen is → Adds seen l s is
+  adds-single : (seen : ℕ) (l : Listed) → AsSingle ρ seen n l → (s : List ℕ) (is : List Item) → Marks k seen is → Adds seen l s is
   adds-single seen l z s is m = record {
-    below = single-below k f.number p z.0;
+    below = single-below k n p z.0;
     adds = as-rule s is (Single l.form) z.0 refl;
-    marked = λ c. subst (λ (x : ℕ). Marks k x (is ++ (item f.number c ∷ []))) (sym z.1) (marks-with k seen f.number is m (single-below k f.number p z.0) (ap is_single (sym p ∙ z.0)) c);
+    marked = λ c. subst (λ (x : ℕ). Marks k x (is ++ (item n c ∷ []))) (sym z.1) (marks-with k seen n is m (single-below k n p z.0) (ap is_single (sym p ∙ z.0)) c);
   }
 
   adds-repeated : (seen : ℕ) (l : Listed) → AsRepeated ρ seen l → (s : List ℕ) (is : List Item) → Marks k seen is → Adds seen l s is
   adds-repeated seen l z s is m = record {
-    below = repeated-below k f.number p z.0;
+    below = repeated-below k n p z.0;
     adds = as-rule s is (Repeated l.form) z.0 refl;
-    marked = λ c. subst (λ (x : ℕ). Marks k x (is ++ (item f.number c ∷ []))) (sym z.1) (marks-repeated k seen f.number is m (ap is_single (sym p ∙ z.0)) c);
+    marked = λ c. subst (λ (x : ℕ). Marks k x (is ++ (item n c ∷ []))) (sym z.1) (marks-repeated k seen n is m (ap is_single (sym p ∙ z.0)) c);
   }
 
   -- by what is listed
   module _ (seen : ℕ) where
-    adds-as : (l : Listed) → Ok (Some l) ≡ listed_by ρ seen f.number → (s : List ℕ) (is : List Item) → Marks k seen is → Adds seen l s is
+    adds-as : (l : Listed) → Ok (Some l) ≡ listed_by ρ seen n → (s : List ℕ) (is : List Item) → Marks k seen is → Adds seen l s is
     adds-as l t s is m =
-        ⊎_elim (λ z. adds-once seen l z s is m) (λ y. ⊎_elim (λ z. adds-single seen l z s is m) (λ z. adds-repeated seen l z s is m) y) (listed-as ρ seen f.number l (sym t))
+        ⊎_elim (λ z. adds-once seen l z s is m) (λ y. ⊎_elim (λ z. adds-single seen l z s is m) (λ z. adds-repeated seen l z s is m) y) (listed-as ρ seen n l (sym t))
 
-    module _ (l : Listed) (t : Ok (Some l) ≡ listed_by ρ seen f.number) where
-      pub judges-wrong : ((s : List ℕ) → none ≡ decode l.form (value_in s f)) → (s : List ℕ) (is : List Item) → Marks k seen is → step k (field_in s f) is ≡ none
-      judges-wrong d s is m = (adds-as l t s is m).adds ∙ ap (add f.number is) (sym (d s))
+    module _ (l : Listed) (t : Ok (Some l) ≡ listed_by ρ seen n) where
+      pub judges-wrong : ((s : List ℕ) → none ≡ decode l.form (asked_value s f)) → (s : List ℕ) (is : List Item) → Marks k seen is → step k (field_in s f) is ≡ none
+      judges-wrong d s is m = (adds-as l t s is m).adds ∙ ap (add n is) (sym (d s))
 
-      pub judges-as : (w : Taken) → ((s : List ℕ) → some (content_of s w) ≡ decode l.form (value_in s f)) → ((s : List ℕ) (at : ℕ) → EndsFound s at f → InsideTaken s w)
-          → (s : List ℕ) (at : ℕ) (is : List Item) → EndsFound s at f → Marks k seen is → Takes s k is f (record { number = f.number; seen = l.seen; what = w })
+      pub judges-as : (w : Taken) → ((s : List ℕ) → some (content_of s w) ≡ decode l.form (asked_value s f)) → ((s : List ℕ) (at : ℕ) → IfSome f (EndsFound s at) → InsideTaken s w)
+          → (s : List ℕ) (at : ℕ) (is : List Item) → IfSome f (EndsFound s at) → Marks k seen is → Takes s k is f (record { number = n; seen = l.seen; what = w })
       judges-as w d i s at is j m =
           let a = adds-as l t s is m in
-          record { below = a.below; adds = a.adds ∙ ap (add f.number is) (sym (d s)); inside = i s at j; marked = a.marked }
+          record { below = a.below; adds = a.adds ∙ ap (add n is) (sym (d s)); inside = i s at j; marked = a.marked }

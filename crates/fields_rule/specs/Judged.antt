@@ -2,7 +2,7 @@
 use Rattle.std.specs.Prelude.{ℕ, ◌+◌, ◌^◌, ◌<◌, ◌≡◌, List, [], ◌∷◌, ◌++◌, Bool, true, false, cond, eqb, Option, Some, None, Result, Ok, Err}
 use Rattle.std.proofs.Math.Option.{none, some}
 use Rattle.fields_wire.specs.Wire.{Field, field}
-use Rattle.fields_wire_reader.specs.FieldAnswer.{value_in}
+use Rattle.fields_wire_reader.specs.FieldAnswer.{number_in, asked_value}
 use Rattle.fields_wire_reader.specs.declared.Found.{Found}
 use Rattle.fields_schema.specs.Rules.{strict_of, rule_of}
 use Rattle.fields_schema.specs.Tree.{is_some, Content, Item, item, find, step}
@@ -59,17 +59,17 @@ listed_by (Repeated f) seen n = read_as f seen
 abbrev pub unlisted_of : Kind → Result (Option Take) Refusal
 unlisted_of k = cond (strict_of k) (Err refusal) (Ok None)
 
-abbrev pub field_in : List ℕ → Found → Field
-field_in s f = field f.number (value_in s f)
+abbrev pub field_in : List ℕ → Option Found → Field
+field_in s f = field (number_in f) (asked_value s f)
 
 -- a listed field: the item that it adds
-pub record Takes (s : List ℕ) (k : Kind) (is : List Item) (f : Found) (t : Take) : Type 0 where
+pub record Takes (s : List ℕ) (k : Kind) (is : List Item) (f : Option Found) (t : Take) : Type 0 where
   pub below : t.number < 16
   pub adds : step k (field_in s f) is ≡ some (is ++ (item t.number (content_of s t.what) ∷ []))
   pub inside : InsideTaken s t.what
   pub marked : (c : Content) → Marks k t.seen (is ++ (item t.number c ∷ []))
 
-abbrev pub Judges : List ℕ → Kind → List Item → Found → Result (Option Take) Refusal → Type 0
+abbrev pub Judges : List ℕ → Kind → List Item → Option Found → Result (Option Take) Refusal → Type 0
 Judges s k is f (Err e) = step k (field_in s f) is ≡ none
 Judges s k is f (Ok None) = step k (field_in s f) is ≡ some is
 Judges s k is f (Ok (Some t)) = Takes s k is f t

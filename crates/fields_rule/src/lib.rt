@@ -1,7 +1,7 @@
 // One field of a message of a kind: what the table makes of it.
 #![tactic(auto)]
 
-ghost use Rattle.std.specs.Prelude.{◌≡◌, List, ℕ, ◌+◌, ◌^◌, ◌<◌, true};
+ghost use Rattle.std.specs.Prelude.{◌≡◌, List, ℕ, ◌+◌, ◌^◌, ◌<◌, true, IfSome};
 ghost use Rattle.fields_wire_reader.specs.FieldAnswer.{EndsFound};
 ghost use Rattle.fields_schema.specs.Tree.{Item};
 ghost use Rattle.base_definitions.specs.Bits.{bit};
@@ -11,7 +11,7 @@ use fields_schema::{Form, Kind, Rule};
 use fields_schema_strict::strict;
 use fields_schema_table::rule_of;
 use fields_value::{Taken, take_value};
-use fields_wire_reader::Found;
+use fields_wire_reader::{Found, number_of};
 
 // A message is refused: for a field that may not be there, or not again, or not so.
 #[derive(Clone, Copy, Debug, PartialEq, Eq)]
@@ -104,13 +104,13 @@ fn by_rule(r: Rule, seen: u64, n: u64) -> Result<Option<Listed>, Refusal>
     }
 }
 
-// A field after those whose singular numbers are marked in `seen`; none where it is skipped.
+// A field after those whose singular numbers are marked in `seen`; none where it is skipped. No field is judged as one that is not listed.
 // What it holds is read in one place, so that the compiler does so here.
-pub fn judge(kind: Kind, seen: u64, f: Found) -> Result<Option<Take>, Refusal>
+pub fn judge(kind: Kind, seen: u64, f: Option<Found>) -> Result<Option<Take>, Refusal>
     requires { seen < 65536 }
-    ensures { (s : List ℕ) (at : ℕ) (is : List Item) → EndsFound s at f → Marks kind seen is → Judges s kind is f result }
+    ensures { (s : List ℕ) (at : ℕ) (is : List Item) → IfSome f (EndsFound s at) → Marks kind seen is → Judges s kind is f result }
 {
-    let n = f.number;
+    let n = number_of(f);
     let Some(listed) = by_rule(rule_of(kind, n), seen, n)? else {
         return unlisted(kind);
     };

@@ -2,7 +2,7 @@
 #![tactic(auto)]
 
 ghost use Rattle.std.specs.Prelude.{◌≡◌, List, ℕ, ◌+◌, ◌≤◌, ◌<◌, length, take, drop, IfSome};
-ghost use Rattle.fields_wire_reader.specs.FieldAnswer.{EndsFound, value_in};
+ghost use Rattle.fields_wire_reader.specs.FieldAnswer.{EndsFound, asked_value};
 ghost use Rattle.fields_schema.specs.Tree.{of_int, of_bytes, of_fixed, decode};
 ghost use Rattle.fields_value.specs.Taken.{means_taken, InsideTaken};
 
@@ -68,10 +68,12 @@ fn take_fixed(f: Form, start: usize) -> Option<Taken>
     }
 }
 
-// What a field holds; none where its form refuses it.
-pub fn take_value(form: Form, f: Found) -> Option<Taken>
-    ensures { ((s : List ℕ) → means_taken s result ≡ decode form (value_in s f)) × ((s : List ℕ) (at : ℕ) → EndsFound s at f → IfSome result (InsideTaken s)) }
+// What a field holds; none where its form refuses it, or there is no field.
+pub fn take_value(form: Form, f: Option<Found>) -> Option<Taken>
+    ensures { ((s : List ℕ) → means_taken s result ≡ decode form (asked_value s f))
+        × ((s : List ℕ) (at : ℕ) → IfSome f (EndsFound s at) → IfSome result (InsideTaken s)) }
 {
+    let f = f?;
     match f.held {
         Held::Varint(v) => take_int(form, v),
         Held::Len { start, len } => take_bytes(form, start, len),

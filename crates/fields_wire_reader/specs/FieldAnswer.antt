@@ -1,5 +1,5 @@
 -- What the field reader's answer means over the bytes s that it was asked of.
-use Rattle.std.specs.Prelude.{ℕ, ◌+◌, ◌≤◌, ◌<◌, ◌≡◌, List, length, take, drop, Option, Some, None}
+use Rattle.std.specs.Prelude.{ℕ, ◌+◌, ◌≤◌, ◌<◌, ◌≡◌, List, [], length, take, drop, Option, Some, None}
 use Rattle.fields_wire.specs.Reader.{Got, nothing, got}
 use Rattle.fields_wire.specs.Wire.{Value, vint, v64, vlen, v32, Field, field}
 use Rattle.fields_wire_reader.specs.declared.Found.{Found}
@@ -18,6 +18,19 @@ value_in s f = value_of_held s f.held
 abbrev pub means_found : List ℕ → Option Found → Got Field
 means_found s (Some f) = got (field f.number (value_in s f)) (drop f.next s)
 means_found s None = nothing
+
+-- of no field the value is one that no form reads, and the number and the place past it are 0
+abbrev pub asked_value : List ℕ → Option Found → Value
+asked_value s (Some f) = value_in s f
+asked_value s None = v64 []
+
+abbrev pub number_in : Option Found → ℕ
+number_in (Some f) = f.number
+number_in None = 0
+
+abbrev pub next_in : Option Found → ℕ
+next_in (Some f) = f.next
+next_in None = 0
 
 -- the bytes of a value end the field, and those with a length begin after `at`
 abbrev pub BytesLie : ℕ → ℕ → Held → Type 0

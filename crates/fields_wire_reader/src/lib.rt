@@ -3,7 +3,7 @@
 
 ghost use Rattle.std.specs.Prelude.{◌≡◌, ◌≤◌, length, drop, IfSome};
 ghost use Rattle.fields_wire.specs.Wire.{value_of, read_field};
-ghost use Rattle.fields_wire_reader.specs.FieldAnswer.{means_found, EndsFound};
+ghost use Rattle.fields_wire_reader.specs.FieldAnswer.{means_found, EndsFound, number_in, next_in};
 
 use fields_wire::varint::read_varint;
 
@@ -106,4 +106,24 @@ pub fn read_field(s: &[u8], at: usize) -> Option<Found>
         return None;
     }
     value_at(s, tag.value / 8, tag.value % 8, tag.next)
+}
+
+// The number of a field; 0 for no field.
+pub fn number_of(f: Option<Found>) -> u64
+    ensures { result ≡ number_in f }
+{
+    match f {
+        Some(f) => f.number,
+        None => 0,
+    }
+}
+
+// The place past a field; 0 for no field.
+pub fn next_of(f: Option<Found>) -> usize
+    ensures { result ≡ next_in f }
+{
+    match f {
+        Some(f) => f.next,
+        None => 0,
+    }
 }

@@ -42,7 +42,7 @@ fn show_plain(rt: &impl Print, s: &[u8], number: usize, what: &Taken) -> io::Res
 fn show(rt: &impl Print, s: &[u8], kind: Kind, depth: usize) -> io::Result<()> {
     let mut at = 0;
     while let Some(f) = read_field(s, at) {
-        let Ok(judged) = judge(kind, 0, f) else {
+        let Ok(judged) = judge(kind, 0, Some(f)) else {
             return Ok(());
         };
         if let Some(t) = judged {
