@@ -14,6 +14,33 @@ use protocol::status::Failure;
 // What comes of a rule: it is kept, or it says why the request is refused.
 pub type Judged = Result<(), Failure>;
 
+// What says so: a code, 0 for a rule that is kept, or what comes of it.
+pub trait Code: Copy {
+    ghost code: { Self → ℕ };
+
+    fn of(judged: Judged) -> Self
+        ensures { code result ≡ fault_of judged };
+}
+
+impl Code for u64 {
+    ghost code = { λ c. c };
+
+    fn of(judged: Judged) -> u64 {
+        match judged {
+            Ok(()) => 0,
+            Err(failure) => failure.number(),
+        }
+    }
+}
+
+impl Code for Judged {
+    ghost code = { fault_of };
+
+    fn of(judged: Judged) -> Judged {
+        judged
+    }
+}
+
 // The lengths of a keyValue's key, newVersion, dbVersion and tag.
 pub fn key_value_good(key: usize, new: usize, old: usize, tag: usize) -> bool
     ensures { (k : KeyValue) → Lengths k key new old tag → result ≡ key_value_good k }
@@ -49,20 +76,20 @@ fn most_value(o: Operation) -> usize
 }
 
 // What is wrong with the part that an operation uses.
-fn part_fault(
+fn part_fault<C: Code>(
     operation: Operation,
-    pair: Judged,
-    change: Judged,
-    range: Judged,
-    setup: Judged,
-    log: Judged,
-    security: Judged,
-) -> Judged
-    ensures { fault_of result ≡ part_fault operation (fault_of pair) (fault_of change) (fault_of range) (fault_of setup) (fault_of log)
-        (fault_of security) }
+    pair: C,
+    change: C,
+    range: C,
+    setup: C,
+    log: C,
+    security: C,
+) -> C
+    ensures { C.code result ≡ part_fault operation (C.code pair) (C.code change) (C.code range) (C.code setup) (C.code log)
+        (C.code security) }
 {
     match operation {
-        Operation::Noop | Operation::FlushAllData => Ok(()),
+        Operation::Noop | Operation::FlushAllData => C::of(Ok(())),
         Operation::Get | Operation::GetVersion | Operation::GetNext | Operation::GetPrevious =>
             pair,
         Operation::Put | Operation::Delete => change,
@@ -74,22 +101,22 @@ fn part_fault(
 }
 
 // What is wrong with a body: from the length of the value part and what is wrong with each part.
-pub fn fault(
+pub fn fault<C: Code>(
     operation: Operation,
     value: usize,
-    pair: Judged,
-    change: Judged,
-    range: Judged,
-    setup: Judged,
-    log: Judged,
-    security: Judged,
-) -> Judged
+    pair: C,
+    change: C,
+    range: C,
+    setup: C,
+    log: C,
+    security: C,
+) -> C
     ensures { (b : Body) (v : List ℕ)
-        → Checked operation b v value (fault_of pair) (fault_of change) (fault_of range) (fault_of setup) (fault_of log) (fault_of security)
-        → fault_of result ≡ fault operation b v }
+        → Checked operation b v value (C.code pair) (C.code change) (C.code range) (C.code setup) (C.code log) (C.code security)
+        → C.code result ≡ fault operation b v }
 {
     if most_value(operation) < value {
-        return Err(Failure::InvalidRequest);
+        return C::of(Err(Failure::InvalidRequest));
     }
     part_fault(operation, pair, change, range, setup, log, security)
 }
