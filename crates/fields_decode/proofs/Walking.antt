@@ -8,12 +8,14 @@ use lib.ListN.{length, drop, drop_of_length-le}
 use Rattle.fields_wire.specs.Wire.{Field, read_field, fields_of, cons_o}
 use Rattle.fields_wire.specs.WireLaws.{fields-front}
 use Rattle.fields_wire.specs.Reader.{got, nothing}
-use Rattle.fields_wire_reader.specs.FieldAnswer.{EndsFound}
+use Rattle.fields_wire_reader.specs.FieldAnswer.{EndsFound, asked_value}
 use Rattle.fields_wire_reader.specs.declared.Found.{Found}
 use Rattle.fields_wire_reader.proofs.FieldPlaces.{fields-fail-at, fields-end}
 use Rattle.fields_schema.specs.Tree.{Item, step, items, items_o, level, then_o}
-use Rattle.std.specs.Prelude.{Option as Perhaps, Some, None, Ok}
+use Rattle.std.specs.Prelude.{Option as Perhaps, Some, None, Ok, Err}
 use Rattle.fields_rule.specs.Judged.{field_in, Takes, Judges}
+use Rattle.fields_rule.specs.declared.Refusal.{Refusal}
+use Rattle.fields_rule.specs.declared.Refusal.TheVariants.{Never, Wrong}
 use Rattle.fields_rule.specs.declared.Take.{Take}
 use Rattle.fields_schema.specs.declared.Kind.{Kind}
 
@@ -62,3 +64,8 @@ module _ (s : List ℕ) (k : Kind) (is : List Item) (f : Found) (r : Perhaps Tak
 
   pub judged-take : (t : Take) → r ≡ Some t → Takes s k is (Some f) t
   judged-take t e = subst (λ (r : Perhaps Take). Judges s k is (Some f) (Ok r)) e h
+
+-- a refusal of either kind
+pub judged-refuse : (s : List ℕ) (k : Kind) (is : List Item) (f : Found) (e : Refusal) → Judges s k is (Some f) (Err e) → step k (field_in s (Some f)) is ≡ none
+judged-refuse s k is f Never h = h (asked_value s (Some f))
+judged-refuse s k is f (Wrong n seen) h = h.adds

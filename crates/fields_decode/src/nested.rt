@@ -4,7 +4,7 @@ ghost use Rattle.fields_schema.specs.Tree.{is_some, listed};
 ghost use Rattle.fields_value.specs.Taken.{InsideTaken};
 ghost use Rattle.fields_decode.specs.Nested.{opens_taken};
 
-use fields_rule::{Refusal, judge};
+use fields_rule::judge;
 use fields_schema::Kind;
 use fields_value::Taken;
 use fields_wire_reader::read_field;
@@ -23,7 +23,7 @@ pub fn reads(s: &[u8], kind: Kind) -> bool
         };
         let judged = match judge(kind, seen, Some(f)) {
             Ok(judged) => judged,
-            Err(Refusal) => return false,
+            Err(_) => return false,
         };
         if let Some(t) = judged {
             if !opens(s, t.what) {

@@ -15,7 +15,7 @@ use Rattle.fields_wire_reader.specs.declared.Found.{Found}
 use Rattle.fields_schema.specs.Rules.{Table, end, row, look, table_of, rule_of, strict_of}
 use Rattle.fields_schema.specs.Tree.{is_some, Content, Item, item, decode, find, add, by_rule, step, later}
 use Rattle.base_definitions.specs.Bits.{bit}
-use Rattle.fields_rule.specs.Judged.{with_again, with_mark, is_single, refusal, read_as, listed_by, Marks, field_in, Takes}
+use Rattle.fields_rule.specs.Judged.{with_again, with_mark, is_single, read_as, listed_by, Marks, field_in, Refuses, Takes}
 use Rattle.fields_schema.proofs.OptionLaws.{none_of}
 use Rattle.fields_rule.specs.SoleLaws.{find-last, sole-snoc}
 use Rattle.fields_schema.specs.declared.Kind.{Kind}
@@ -26,6 +26,7 @@ use Rattle.fields_schema.specs.declared.Rule.TheVariants.{Unlisted, Refused, Onc
 use Rattle.fields_value.specs.Taken.{content_of, InsideTaken}
 use Rattle.fields_value.specs.declared.Taken.{Taken}
 use Rattle.fields_rule.specs.declared.Listed.{Listed}
+use Rattle.fields_rule.specs.declared.Refusal.TheVariants.{Never}
 use Rattle.base_definitions.proofs.BitsLaws.{set-bit, bits_below}
 
 or-cond : (t b : Bool) → (t || b) ≡ cond t true b
@@ -208,7 +209,7 @@ listed-as Unlisted seen n l e = never (cc)
 listed-as Refused seen n l e = never (cc)
 listed-as (Once g) seen n l e = go (bit seen n) refl e
   where
-    go : (b : Bool) → bit seen n ≡ b → cond b (Err refusal) (read_as g (with_mark seen n)) ≡ Ok (Some l)
+    go : (b : Bool) → bit seen n ≡ b → cond b (Err Never) (read_as g (with_mark seen n)) ≡ Ok (Some l)
         → AsOnce (Once g) seen n l ⊎ (AsSingle (Once g) seen n l ⊎ AsRepeated (Once g) seen l)
     go true q e = never (cc)
     go false q e =
@@ -267,8 +268,8 @@ module _ (k : Kind) (f : Perhaps Found) (n : ℕ) (q : n ≡ number_in f) (ρ : 
         ⊎_elim (λ z. adds-once seen l z s is m) (λ y. ⊎_elim (λ z. adds-single seen l z s is m) (λ z. adds-repeated seen l z s is m) y) (listed-as ρ seen n l (sym t))
 
     module _ (l : Listed) (t : Ok (Some l) ≡ listed_by ρ seen n) where
-      pub judges-wrong : ((s : List ℕ) → none ≡ decode l.form (asked_value s f)) → (s : List ℕ) (is : List Item) → Marks k seen is → step k (field_in s f) is ≡ none
-      judges-wrong d s is m = (adds-as l t s is m).adds ∙ ap (add n is) (sym (d s))
+      pub judges-wrong : ((s : List ℕ) → none ≡ decode l.form (asked_value s f)) → (s : List ℕ) (is : List Item) → Marks k seen is → Refuses s k is f n l.seen
+      judges-wrong d s is m = let a = adds-as l t s is m in record { number = q; below = a.below; adds = a.adds ∙ ap (add n is) (sym (d s)); marked = a.marked }
 
       pub judges-as : (w : Taken) → ((s : List ℕ) → some (content_of s w) ≡ decode l.form (asked_value s f)) → ((s : List ℕ) (at : ℕ) → IfSome f (EndsFound s at) → InsideTaken s w)
           → (s : List ℕ) (at : ℕ) (is : List Item) → IfSome f (EndsFound s at) → Marks k seen is → Takes s k is f (record { number = n; seen = l.seen; what = w })

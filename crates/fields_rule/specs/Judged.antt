@@ -1,7 +1,7 @@
 -- What the answers of the code on one field mean over the bytes s that it was read from.
 use Rattle.std.specs.Prelude.{ℕ, ◌+◌, ◌^◌, ◌<◌, ◌≡◌, List, [], ◌∷◌, ◌++◌, Bool, true, false, cond, eqb, Option, Some, None, Result, Ok, Err}
 use Rattle.std.proofs.Math.Option.{none, some}
-use Rattle.fields_wire.specs.Wire.{Field, field}
+use Rattle.fields_wire.specs.Wire.{Value, Field, field}
 use Rattle.fields_wire_reader.specs.FieldAnswer.{number_in, asked_value}
 use Rattle.fields_wire_reader.specs.declared.Found.{Found}
 use Rattle.fields_schema.specs.Rules.{strict_of, rule_of}
@@ -12,6 +12,7 @@ use Rattle.fields_schema.specs.declared.Rule.{Rule}
 use Rattle.fields_schema.specs.declared.Rule.TheVariants.{Unlisted, Refused, Once, Single, Repeated}
 use Rattle.fields_value.specs.Taken.{content_of, InsideTaken}
 use Rattle.fields_rule.specs.declared.Refusal.{Refusal}
+use Rattle.fields_rule.specs.declared.Refusal.TheVariants.{Never, Wrong}
 use Rattle.fields_rule.specs.declared.Listed.{Listed}
 use Rattle.fields_rule.specs.declared.Take.{Take}
 use Rattle.base_definitions.specs.Bits.{bit}
@@ -42,22 +43,19 @@ pub record Marks (k : Kind) (seen : ℕ) (is : List Item) : Type 0 where
   pub marks : (n : ℕ) → is_single (rule_of k n) ≡ true → bit seen n ≡ is_some (find n is)
   pub alone : bit seen 0 ≡ false → (n : ℕ) → is_single (rule_of k n) ≡ true → Sole n is
 
-abbrev pub refusal : Refusal
-refusal = record {}
-
 abbrev pub read_as : Form → ℕ → Result (Option Listed) Refusal
 read_as f seen = Ok (Some (record { form = f; seen = seen }))
 
 -- what a rule says of the number n, after the marks; document 02, CR 5: "Security sent twice, a second singular field inside it … stay refused"
 abbrev pub listed_by : Rule → ℕ → ℕ → Result (Option Listed) Refusal
 listed_by Unlisted seen n = Ok None
-listed_by Refused seen n = Err refusal
-listed_by (Once f) seen n = cond (bit seen n) (Err refusal) (read_as f (with_mark seen n))
+listed_by Refused seen n = Err Never
+listed_by (Once f) seen n = cond (bit seen n) (Err Never) (read_as f (with_mark seen n))
 listed_by (Single f) seen n = read_as f (with_mark seen n)
 listed_by (Repeated f) seen n = read_as f seen
 
 abbrev pub unlisted_of : Kind → Result (Option Take) Refusal
-unlisted_of k = cond (strict_of k) (Err refusal) (Ok None)
+unlisted_of k = cond (strict_of k) (Err Never) (Ok None)
 
 abbrev pub field_in : List ℕ → Option Found → Field
 field_in s f = field (number_in f) (asked_value s f)
@@ -69,7 +67,16 @@ pub record Takes (s : List ℕ) (k : Kind) (is : List Item) (f : Option Found) (
   pub inside : InsideTaken s t.what
   pub marked : (c : Content) → Marks k t.seen (is ++ (item t.number c ∷ []))
 
+-- a field that is refused for what it holds: its number, and the marks with it
+pub record Refuses (s : List ℕ) (k : Kind) (is : List Item) (f : Option Found) (n seen : ℕ) : Type 0 where
+  pub number : n ≡ number_in f
+  pub below : n < 16
+  pub adds : step k (field_in s f) is ≡ none
+  pub marked : (c : Content) → Marks k seen (is ++ (item n c ∷ []))
+
+-- a field that may not be there, or not again, is refused whatever it holds
 abbrev pub Judges : List ℕ → Kind → List Item → Option Found → Result (Option Take) Refusal → Type 0
-Judges s k is f (Err e) = step k (field_in s f) is ≡ none
+Judges s k is f (Err Never) = (v : Value) → step k (field (number_in f) v) is ≡ none
+Judges s k is f (Err (Wrong n seen)) = Refuses s k is f n seen
 Judges s k is f (Ok None) = step k (field_in s f) is ≡ some is
 Judges s k is f (Ok (Some t)) = Takes s k is f t

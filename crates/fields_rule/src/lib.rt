@@ -13,9 +13,13 @@ use fields_schema_table::rule_of;
 use fields_value::{Taken, take_value};
 use fields_wire_reader::{Found, number_of};
 
-// A message is refused: for a field that may not be there, or not again, or not so.
+// A message is refused for a field that may not be there, or not again, whatever it holds,
+// or for a listed one whose form refuses what it holds, with its number and the marks of the singular numbers up to it.
 #[derive(Clone, Copy, Debug, PartialEq, Eq)]
-pub struct Refusal;
+pub enum Refusal {
+    Never,
+    Wrong { number: usize, seen: u64 },
+}
 
 // How a listed field is read, with the marks of the singular numbers up to it.
 #[derive(Clone, Copy)]
@@ -74,7 +78,7 @@ fn unlisted(kind: Kind) -> Result<Option<Take>, Refusal>
     ensures { result ≡ unlisted_of kind }
 {
     if strict(kind) {
-        return Err(Refusal);
+        return Err(Refusal::Never);
     }
     Ok(None)
 }
@@ -86,10 +90,10 @@ fn by_rule(r: Rule, seen: u64, n: u64) -> Result<Option<Listed>, Refusal>
 {
     match r {
         Rule::Unlisted => Ok(None),
-        Rule::Refused => Err(Refusal),
+        Rule::Refused => Err(Refusal::Never),
         Rule::Once(form) => {
             if marked(seen, n) {
-                return Err(Refusal);
+                return Err(Refusal::Never);
             }
             Ok(Some(Listed {
                 form,
@@ -106,6 +110,7 @@ fn by_rule(r: Rule, seen: u64, n: u64) -> Result<Option<Listed>, Refusal>
 
 // A field after those whose singular numbers are marked in `seen`; none where it is skipped. No field is judged as one that is not listed.
 // What it holds is read in one place, so that the compiler does so here.
+#[inline(always)]
 pub fn judge(kind: Kind, seen: u64, f: Option<Found>) -> Result<Option<Take>, Refusal>
     requires { seen < 65536 }
     ensures { (s : List ℕ) (at : ℕ) (is : List Item) → IfSome f (EndsFound s at) → Marks kind seen is → Judges s kind is f result }
@@ -114,11 +119,15 @@ pub fn judge(kind: Kind, seen: u64, f: Option<Found>) -> Result<Option<Take>, Re
     let Some(listed) = by_rule(rule_of(kind, n), seen, n)? else {
         return unlisted(kind);
     };
+    let number = n as usize;
     let Some(what) = take_value(listed.form, f) else {
-        return Err(Refusal);
+        return Err(Refusal::Wrong {
+            number,
+            seen: listed.seen,
+        });
     };
     Ok(Some(Take {
-        number: n as usize,
+        number,
         seen: listed.seen,
         what,
     }))

@@ -98,6 +98,7 @@ fn value_at(s: &[u8], number: u64, wire: u64, at: usize) -> Option<Found>
 }
 
 // The field at `at`, if there is one: a tag and its value.
+#[inline(always)]
 pub fn read_field(s: &[u8], at: usize) -> Option<Found>
     ensures { (means_found s.now result ≡ read_field (drop at s.now)) × IfSome result (EndsFound s.now at) }
 {

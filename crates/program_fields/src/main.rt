@@ -2,7 +2,7 @@
 #![tactic(auto)]
 
 use fields_decode::nested::reads;
-use fields_rule::judge;
+use fields_rule::{Refusal, judge};
 use fields_schema::Kind;
 use fields_value::Taken;
 use fields_wire_reader::read_field;
@@ -42,11 +42,11 @@ fn show_plain(rt: &impl Print, s: &[u8], number: usize, what: &Taken) -> io::Res
 fn show(rt: &impl Print, s: &[u8], kind: Kind, depth: usize) -> io::Result<()> {
     let mut at = 0;
     while let Some(f) = read_field(s, at) {
-        let Ok(judged) = judge(kind, 0, Some(f)) else {
-            return Ok(());
-        };
-        if let Some(t) = judged {
-            show_field(rt, s, t.number, t.what, depth)?;
+        match judge(kind, 0, Some(f)) {
+            Ok(Some(t)) => show_field(rt, s, t.number, t.what, depth)?,
+            Ok(None) => {}
+            Err(Refusal::Wrong { number, .. }) => print!(rt; "{number}?")?,
+            Err(Refusal::Never) => return Ok(()),
         }
         at = f.next;
     }

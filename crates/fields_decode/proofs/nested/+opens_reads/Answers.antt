@@ -1,4 +1,5 @@
 use Rattle.std.proofs.Common.{arith, sym, ◌∙◌}
+use Rattle.fields_decode.proofs.Walking.{judged-refuse}
 use Rattle.fields_decode.proofs.Nesting.{reading-start, reading-end, reading-none, reading-refused, reading-skip, takes, reading-on, reading-shut, shorter}
 use Rattle.fields_decode.proofs.nested.+opens_reads.Goals as goal
 
@@ -22,7 +23,7 @@ reads-returns-in-Err t c =
     let a = c.args in
     let o = c.loop-at in
     let f = c.in-Some in
-    reading-refused a.kind a.s.now o.seen o.at o.invariant f.f f.ensures.0 f.ensures.1 (c.in-Err.ensures a.s.now o.at o.invariant.found f.ensures.1 o.invariant.marks)
+    reading-refused a.kind a.s.now o.seen o.at o.invariant f.f f.ensures.0 f.ensures.1 (judged-refuse a.s.now a.kind o.invariant.found f.f c.in-Err.field-0 (c.in-Err.ensures a.s.now o.at o.invariant.found f.ensures.1 o.invariant.marks))
 
 pub reads-opens-requires : goal.reads-opens-requires
 reads-opens-requires t c =

@@ -1,4 +1,5 @@
 use Rattle.std.proofs.Common.{arith}
+use Rattle.fields_decode.proofs.Walking.{judged-refuse}
 use Rattle.fields_decode.proofs.Storing.{going_start, going_end, going-none, going-refused, going-skip, takes-below, going_on}
 use Rattle.fields_decode.proofs.slots.collect.Goals as goal
 
@@ -20,7 +21,7 @@ returns-in_default-judge c =
     let o = c.loop-at in
     let f = c.in-Some in
     let r = c.refused-in_default-judge in
-    going-refused a.kind a.s.now o.seen o.value o.len o.at o.invariant f.f f.ensures.0 f.ensures.1 (c.in_default-judge.ensures a.s.now o.at o.invariant.found f.ensures.1 o.invariant.holds.marks) r.result r.ensures
+    going-refused a.kind a.s.now o.seen o.value o.len o.at o.invariant f.f f.ensures.0 f.ensures.1 (judged-refuse a.s.now a.kind o.invariant.found f.f c.in_default-judge.field-0 (c.in_default-judge.ensures a.s.now o.at o.invariant.found f.ensures.1 o.invariant.holds.marks)) r.result r.ensures
 
 pub offset_bounds-value-t : goal.offset_bounds-value-t
 offset_bounds-value-t c =
